@@ -1,0 +1,11 @@
+use borrow.Author.Needs.{needs}
+use Rattle.disc.specs.Formats.{blockBytes}
+use Rattle.disc.proofs.block_bytes.Statement.{statement}
+use Rattle.disc.proofs.block_bytes.Tie as tie
+
+returns : tie.Need-returns
+unfolding blockBytes
+returns c = cc
+
+pub block-bytes-spec : {M : Type 1} → statement M
+block-bytes-spec = tie.close (tie.spec (λ _ _. tt) (λ c. search needs) returns)

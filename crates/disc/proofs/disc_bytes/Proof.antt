@@ -1,0 +1,11 @@
+use borrow.Author.Needs.{needs}
+use Rattle.disc.specs.Formats.{discBytes}
+use Rattle.disc.proofs.disc_bytes.Statement.{statement}
+use Rattle.disc.proofs.disc_bytes.Tie as tie
+
+returns : tie.Need-returns
+unfolding discBytes
+returns c = cc
+
+pub disc-bytes-spec : {M : Type 1} → statement M
+disc-bytes-spec = tie.close (tie.spec (λ _ _. tt) (λ _ _. tt) returns)

@@ -1,0 +1,22 @@
+use native.Mathlib.Nat.{mul-le-mul}
+use native.Mathlib.Omega.{arith}
+use Rattle.disc.specs.Formats.{bufferBytes, runBytes}
+use Rattle.disc.proofs.Table.{block-fits}
+use Rattle.disc.proofs.run_bytes.Statement.{statement}
+use Rattle.disc.proofs.run_bytes.Tie as tie
+use borrow.Author.Needs.{needs}
+use Prim.Native.Nat.{_≤_}
+
+mul-result : tie.Need-mul-result
+mul-result c =
+    let x = c .before .args in
+    let few : x .blocks ≤ 4294967295 = omega arith in
+    let small : c .block-bytes .result ≤ bufferBytes = rw (c .block-bytes .ensures) (block-fits (x .number)) in
+    record { fits = omega (arith, mul-le-mul few small) }
+
+returns : tie.Need-returns
+unfolding runBytes
+returns c = cc
+
+pub run-bytes-spec : {M : Type 1} → statement M
+run-bytes-spec = tie.close (tie.spec (λ _ _. tt) mul-result returns)

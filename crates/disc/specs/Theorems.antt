@@ -1,0 +1,21 @@
+-- What the table of discs has to satisfy; proved in proofs/Table.
+use mathlib.Core.Path.{_≡_}
+use mathlib.Core.List.{[], _∷_, map}
+use Prim.Native.Nat.{ℕ, _*_, _≤_, _<_}
+use Rattle.disc.specs.Formats.{formatOf, heads, bufferBytes, blockBytes, discBytes}
+
+-- the column "disc bytes"
+abbrev pub DiscBytesColumn : Type 0
+DiscBytesColumn = map discBytes (1 ∷ 2 ∷ 3 ∷ 4 ∷ []) ≡ 737280 ∷ 1261568 ∷ 1474560 ∷ 32768 ∷ []
+
+-- cylinders, heads and sectors make up the blocks
+abbrev pub Geometry : Type 0
+Geometry = (number : ℕ) → formatOf number .blocks ≡ formatOf number .cylinders * heads * formatOf number .sectors
+
+-- a block fits the block buffer
+abbrev pub BlockFits : Type 0
+BlockFits = (number : ℕ) → blockBytes number ≤ bufferBytes
+
+-- a disc's block is not empty
+abbrev pub BlockHolds : Type 0
+BlockHolds = (number : ℕ) → 0 < number → number ≤ 4 → 0 < blockBytes number
