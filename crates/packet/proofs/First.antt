@@ -1,0 +1,45 @@
+-- What one check says of the verdict, and what a passing verdict says of all checks. Assumes nothing.
+use mathlib.Core.Path.{_≡_, refl, _∙_, sym}
+use mathlib.Core.Bool.{Bool, true, false, cond}
+use mathlib.Core.List.{List, [], _∷_}
+use Prim.Native.Nat.{ℕ, suc, _+_, _≤_, _<_}
+use native.Mathlib.Numerals.{add-one}
+use native.Mathlib.Omega.{arith}
+use lib.ListN.{length, getD, drop, drop-of-length-le}
+use lib.Seq.{drop-cons}
+use Rattle.packet.specs.Checks.{firstOf}
+use Rattle.packet.specs.declared.Check.{Check}
+use Rattle.packet.specs.declared.Rule.{Rule}
+use Rattle.packet.specs.declared.Verdict.the-variants.{Passes, Fails}
+
+module _ (cs : List Check) (rule : Rule) (d : Check) (i : ℕ) (h : i < length cs) where
+  pub fails-here : getD cs i d .0 ≡ true → firstOf (drop i cs) rule ≡ Fails (getD cs i d .1)
+  fails-here e = rw (drop-cons cs i d h, e)
+
+  pub holds-here : getD cs i d .0 ≡ false → firstOf (drop i cs) rule ≡ firstOf (drop (i + 1) cs) rule
+  holds-here e = rw (add-one, drop-cons cs i d h, e)
+
+pub none-fails : (cs : List Check) (rule : Rule) (i : ℕ) → length cs ≤ i → firstOf (drop i cs) rule ≡ Passes rule
+none-fails cs rule i h = rw (drop-of-length-le cs h)
+
+abbrev pub AllHold : List Check → Type 0
+AllHold [] = Unit
+AllHold (c ∷ cs) = (c .0 ≡ false) × AllHold cs
+
+pub all-hold : (cs : List Check) (rule other : Rule) → firstOf cs rule ≡ Passes other → AllHold cs
+all-hold [] rule other e = tt
+all-hold (c ∷ cs) rule other e = here (c .0) (λ h. all-hold cs rule other h) e
+  where
+    here : (f : Bool) → (firstOf cs rule ≡ Passes other → AllHold cs) → cond f (Fails (c .1)) (firstOf cs rule) ≡ Passes other
+        → (f ≡ false) × AllHold cs
+    here false more e′ = (refl, more e′)
+    here true more e′ = absurd (let z : _≡_ {A = ℕ} 0 1 = cc in omega arith)
+
+pub same-rule : (cs : List Check) (rule other : Rule) → firstOf cs rule ≡ Passes other → rule ≡ other
+same-rule [] rule other e = cc
+same-rule (c ∷ cs) rule other e = here (c .0) (λ h. same-rule cs rule other h) e
+  where
+    here : (f : Bool) → (firstOf cs rule ≡ Passes other → rule ≡ other) → cond f (Fails (c .1)) (firstOf cs rule) ≡ Passes other
+        → rule ≡ other
+    here false more e′ = more e′
+    here true more e′ = absurd (let z : _≡_ {A = ℕ} 0 1 = cc in omega arith)

@@ -1,0 +1,3 @@
+pub mod Below
+pub mod Find
+pub mod First

@@ -1,0 +1,37 @@
+use Rattle.packet.specs.Checks.{checksOf}
+use Rattle.packet.proofs.checked.Statement.{statement}
+use Rattle.packet.proofs.checked.Tie as tie
+
+returns : tie.Need-returns
+unfolding checksOf
+returns c =
+    let end = c .before .before .before .before in
+    let address = end .before in
+    let control = address .before in
+    let value = control .before in
+    let mask = value .before in
+    let unit = mask .before .before .before .before .before .before .before in
+    rw (
+      c .first-failure .ensures,
+      end .past-end .ensures,
+      address .address .ensures,
+      control .bad-control .ensures,
+      value .bad-value .ensures,
+      mask .in-mask .ensures,
+      unit .other-unit .ensures,
+      unit .before .length .ensures,
+    )
+
+pub checked-spec : {M : Type 1} → statement M
+checked-spec =
+    tie.close
+    (tie.spec
+    (λ _ _. tt)
+    (λ _ _. tt)
+    (λ _ _. tt)
+    (λ _ _. tt)
+    (λ _ _. tt)
+    (λ _ _. tt)
+    (λ _ _. tt)
+    (λ _ _. tt)
+    returns)

@@ -1,0 +1,369 @@
+// What a packet says, and whether it may pass.
+ghost use mathlib.Core.Path.{_≡_};
+ghost use Rattle.packet.specs.Fields.{byteAt, word, long, addressOf, lengthOf};
+ghost use Rattle.packet.specs.Rules.{baseOf, ruleOf};
+ghost use Rattle.packet.specs.Checks.{unitB, inMaskB, valueB, controlB, pastEndB, firstOf, checksOf, verdict};
+use disc::BlockAddress;
+use state::Attention;
+use state::Failure;
+use state::Fault;
+use state::State;
+
+pub const TEST_UNIT_READY: u8 = 0x00;
+
+pub const REZERO_UNIT: u8 = 0x01;
+
+pub const REQUEST_SENSE: u8 = 0x03;
+
+pub const INQUIRY: u8 = 0x12;
+
+pub const START_STOP_UNIT: u8 = 0x1b;
+
+pub const PREVENT_REMOVAL: u8 = 0x1e;
+
+pub const READ_FORMAT_CAPACITIES: u8 = 0x23;
+
+pub const READ_CAPACITY: u8 = 0x25;
+
+pub const READ_10: u8 = 0x28;
+
+pub const WRITE_10: u8 = 0x2a;
+
+pub const SEEK: u8 = 0x2b;
+
+pub const WRITE_AND_VERIFY: u8 = 0x2e;
+
+pub const VERIFY: u8 = 0x2f;
+
+pub const MODE_SENSE: u8 = 0x5a;
+
+pub const READ_12: u8 = 0xa8;
+
+pub const WRITE_12: u8 = 0xaa;
+
+// Which of the checks C, D, G and H are asked.
+pub struct Asked {
+    pub attention: bool,
+    pub disc: bool,
+    pub range: bool,
+    pub unprotected: bool,
+}
+
+const ALWAYS: Asked = Asked {
+    attention: false,
+    disc: false,
+    range: false,
+    unprotected: false,
+};
+
+const ATTENDED: Asked = Asked {
+    attention: true,
+    disc: false,
+    range: false,
+    unprotected: false,
+};
+
+const ON_DISC: Asked = Asked {
+    attention: true,
+    disc: true,
+    range: false,
+    unprotected: false,
+};
+
+const IN_RANGE: Asked = Asked {
+    attention: true,
+    disc: true,
+    range: true,
+    unprotected: false,
+};
+
+const STORING: Asked = Asked {
+    attention: true,
+    disc: true,
+    range: true,
+    unprotected: true,
+};
+
+// What the checks F and F2 look at: nothing, bits of byte 4 that have to be zero, or page and page control.
+pub enum Values {
+    Any,
+    Zero(u8),
+    Page,
+}
+
+const ANY: Values = Values::Any;
+
+// Where a command has its length.
+pub enum Field {
+    Nowhere,
+    Byte4,
+    Bytes7To8,
+    Bytes6To9,
+}
+
+pub enum Answering {
+    Sense,
+    Inquiry,
+    Capacities,
+    Capacity,
+    Mode,
+}
+
+// What a command does when it has passed.
+pub enum Routine {
+    Nothing,
+    Motor,
+    Answer(Answering),
+    Read,
+    Write,
+}
+
+const NOTHING: Routine = Routine::Nothing;
+
+const MOTOR: Routine = Routine::Motor;
+
+const GIVE_SENSE: Routine = Routine::Answer(Answering::Sense);
+
+const GIVE_INQUIRY: Routine = Routine::Answer(Answering::Inquiry);
+
+const GIVE_CAPACITIES: Routine = Routine::Answer(Answering::Capacities);
+
+const GIVE_CAPACITY: Routine = Routine::Answer(Answering::Capacity);
+
+const GIVE_MODE: Routine = Routine::Answer(Answering::Mode);
+
+const READ: Routine = Routine::Read;
+
+const WRITE: Routine = Routine::Write;
+
+// A base command: its row of the masks, its check set, its routine.
+pub struct Rule {
+    pub row: usize,
+    pub asked: Asked,
+    pub values: Values,
+    pub length: Field,
+    pub routine: Routine,
+}
+
+pub enum Known {
+    Unknown,
+    Base(Rule),
+}
+
+pub enum Verdict {
+    Passes(Rule),
+    Fails(Failure),
+}
+
+// Whether a check fails, and the failure that it then is.
+pub struct Check(pub bool, pub Failure);
+
+// The byte at `i`, 0 past the end.
+pub fn byte(packet: &[u8], i: usize) -> u8
+    ensures { λ r. ⌜ r ≡ byteAt (now (packet .entry)) i ⌝ }
+{
+    if i < packet.len() { packet[i] } else { 0 }
+}
+
+fn word_of(a: u8, b: u8) -> u32
+    ensures { λ r. ⌜ r ≡ word a b ⌝ }
+{
+    (a as u32) * 256 + (b as u32)
+}
+
+fn long_of(a: u8, b: u8, c: u8, d: u8) -> u32
+    ensures { λ r. ⌜ r ≡ long a b c d ⌝ }
+{
+    (((a as u32) * 256 + (b as u32)) * 256 + (c as u32)) * 256 + (d as u32)
+}
+
+pub fn address(packet: &[u8]) -> BlockAddress
+    ensures { λ r. ⌜ r ≡ addressOf (now (packet .entry)) ⌝ }
+{
+    BlockAddress(long_of(
+        byte(packet, 2),
+        byte(packet, 3),
+        byte(packet, 4),
+        byte(packet, 5),
+    ))
+}
+
+pub fn length(field: Field, packet: &[u8]) -> u32
+    ensures { λ r. ⌜ r ≡ lengthOf field (now (packet .entry)) ⌝ }
+{
+    match field {
+        Field::Nowhere => 0,
+        Field::Byte4 => byte(packet, 4) as u32,
+        Field::Bytes7To8 => word_of(byte(packet, 7), byte(packet, 8)),
+        Field::Bytes6To9 => long_of(
+            byte(packet, 6),
+            byte(packet, 7),
+            byte(packet, 8),
+            byte(packet, 9),
+        ),
+    }
+}
+
+fn base(row: usize, asked: Asked, values: Values, length: Field, routine: Routine) -> Known
+    ensures { λ r. ⌜ r ≡ baseOf row asked values length routine ⌝ }
+{
+    Known::Base(Rule {
+        row: row,
+        asked: asked,
+        values: values,
+        length: length,
+        routine: routine,
+    })
+}
+
+// Check A, and each base command's row, check set and routine.
+pub fn rule_of(code: u8) -> Known
+    ensures { λ r. ⌜ r ≡ ruleOf code ⌝ }
+{
+    match code {
+        TEST_UNIT_READY => base(0, ON_DISC, ANY, Field::Nowhere, NOTHING),
+        REZERO_UNIT => base(1, ON_DISC, ANY, Field::Nowhere, NOTHING),
+        REQUEST_SENSE => base(2, ALWAYS, ANY, Field::Byte4, GIVE_SENSE),
+        INQUIRY => base(3, ALWAYS, ANY, Field::Byte4, GIVE_INQUIRY),
+        START_STOP_UNIT => base(4, ATTENDED, Values::Zero(2), Field::Nowhere, MOTOR),
+        PREVENT_REMOVAL => base(5, ATTENDED, Values::Zero(1), Field::Nowhere, NOTHING),
+        READ_FORMAT_CAPACITIES => base(6, ATTENDED, ANY, Field::Bytes7To8, GIVE_CAPACITIES),
+        READ_CAPACITY => base(7, ON_DISC, ANY, Field::Nowhere, GIVE_CAPACITY),
+        READ_10 => base(8, IN_RANGE, ANY, Field::Bytes7To8, READ),
+        WRITE_10 => base(9, STORING, ANY, Field::Bytes7To8, WRITE),
+        SEEK => base(10, IN_RANGE, ANY, Field::Nowhere, NOTHING),
+        WRITE_AND_VERIFY => base(11, STORING, ANY, Field::Bytes7To8, WRITE),
+        VERIFY => base(12, IN_RANGE, ANY, Field::Bytes7To8, NOTHING),
+        MODE_SENSE => base(13, ON_DISC, Values::Page, Field::Bytes7To8, GIVE_MODE),
+        READ_12 => base(14, IN_RANGE, ANY, Field::Bytes6To9, READ),
+        WRITE_12 => base(15, STORING, ANY, Field::Bytes6To9, WRITE),
+        _ => Known::Unknown,
+    }
+}
+
+// B fails: the unit number is not 0.
+fn other_unit(packet: &[u8]) -> bool
+    ensures { λ r. ⌜ r ≡ unitB (now (packet .entry)) ⌝ }
+{
+    byte(packet, 1) / 32 != 0
+}
+
+// E holds: no bit is set outside the mask.
+fn in_mask(packet: &[u8], row: usize) -> bool
+    ensures { λ r. ⌜ r ≡ inMaskB (now (packet .entry)) row ⌝ }
+{
+    let masks = disc::mask_row(row);
+    let mut i = 0;
+    while i < 12 {
+        let b = byte(packet, i);
+        if b & masks[i] != b {
+            return false;
+        }
+        i += 1;
+    }
+    true
+}
+
+// F fails: a bit that has to be zero is set, or there is no such page.
+fn bad_value(values: Values, packet: &[u8]) -> bool
+    ensures { λ r. ⌜ r ≡ valueB values (now (packet .entry)) ⌝ }
+{
+    match values {
+        Values::Any => false,
+        Values::Zero(bits) => byte(packet, 4) & bits != 0,
+        Values::Page => {
+            let page = byte(packet, 2) % 64;
+            (page != 0x05) & (page != 0x3f)
+        }
+    }
+}
+
+// F2 fails: the saved values are asked for.
+fn bad_control(values: Values, packet: &[u8]) -> bool
+    ensures { λ r. ⌜ r ≡ controlB values (now (packet .entry)) ⌝ }
+{
+    match values {
+        Values::Any => false,
+        Values::Zero(_) => false,
+        Values::Page => byte(packet, 2) / 64 == 3,
+    }
+}
+
+// What address plus length is added in: 32 bits would wrap.
+type Wide = u64;
+
+// G fails: the address is past the last block, or address plus length past the block count.
+fn past_end(number: u8, from: BlockAddress, count: u32) -> bool
+    ensures { λ r. ⌜ r ≡ pastEndB number from count ⌝ }
+{
+    let format = disc::format_of(number);
+    let blocks = format.blocks as Wide;
+    let first = from.0 as Wide;
+    let end = first + (count as Wide);
+    (blocks <= first) | (blocks < end)
+}
+
+fn first_failure(checks: [Check; 9], rule: Rule) -> Verdict
+    ensures { λ r. ⌜ r ≡ firstOf checks rule ⌝ }
+{
+    let mut i = 0;
+    while i < 9 {
+        let check = checks[i];
+        let failure = check.1;
+        if check.0 {
+            return Verdict::Fails(failure);
+        }
+        i += 1;
+    }
+    Verdict::Passes(rule)
+}
+
+// The checks B to H of a base command, in order: the first to fail gives the failure.
+fn checked(state: State, rule: Rule, packet: &[u8]) -> Verdict
+    ensures { λ r. ⌜ r ≡ firstOf (checksOf state rule (now (packet .entry))) rule ⌝ }
+{
+    let asked = rule.asked;
+    let values = rule.values;
+    let field = rule.length;
+    let count = length(field, packet);
+    first_failure(
+        [
+            Check(other_unit(packet), Failure::Found(Fault::OtherUnit)),
+            Check(
+                asked.attention & state.power_on,
+                Failure::Pending(Attention::PowerOn),
+            ),
+            Check(
+                asked.attention & state.change,
+                Failure::Pending(Attention::Change),
+            ),
+            Check(
+                asked.disc & (state.disc == 0),
+                Failure::Found(Fault::NoDisc),
+            ),
+            Check(!in_mask(packet, rule.row), Failure::Found(Fault::BadField)),
+            Check(bad_value(values, packet), Failure::Found(Fault::BadField)),
+            Check(bad_control(values, packet), Failure::Found(Fault::NotSaved)),
+            Check(
+                asked.range & past_end(state.disc, address(packet), count),
+                Failure::Found(Fault::OutOfRange),
+            ),
+            Check(
+                asked.unprotected & state.protected,
+                Failure::Found(Fault::Protected),
+            ),
+        ],
+        rule,
+    )
+}
+
+// Whether a packet passes the checks A to H, and by which rule, or the first failure.
+pub fn judge(state: State, packet: &[u8]) -> Verdict
+    ensures { λ r. ⌜ r ≡ verdict state (now (packet .entry)) ⌝ }
+{
+    let known = rule_of(byte(packet, 0));
+    match known {
+        Known::Unknown => Verdict::Fails(Failure::Found(Fault::UnknownCode)),
+        Known::Base(rule) => checked(state, rule, packet),
+    }
+}
