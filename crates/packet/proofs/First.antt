@@ -1,8 +1,8 @@
 -- What one check says of the verdict, and what a passing verdict says of all checks. Assumes nothing.
-use mathlib.Core.Path.{_≡_, refl, _∙_, sym}
+use mathlib.Core.Path.{_≡_, refl}
 use mathlib.Core.Bool.{Bool, true, false, cond}
 use mathlib.Core.List.{List, [], _∷_}
-use Prim.Native.Nat.{ℕ, suc, _+_, _≤_, _<_}
+use Prim.Native.Nat.{ℕ, _+_, _≤_, _<_}
 use native.Mathlib.Numerals.{add-one}
 use native.Mathlib.Omega.{arith}
 use lib.ListN.{length, getD, drop, drop-of-length-le}
@@ -26,20 +26,12 @@ abbrev pub AllHold : List Check → Type 0
 AllHold [] = Unit
 AllHold (c ∷ cs) = (c .0 ≡ false) × AllHold cs
 
-pub all-hold : (cs : List Check) (rule other : Rule) → firstOf cs rule ≡ Passes other → AllHold cs
-all-hold [] rule other e = tt
-all-hold (c ∷ cs) rule other e = here (c .0) (λ h. all-hold cs rule other h) e
+-- a verdict that passes says that all checks hold, and keeps the rule
+pub passes-all : (cs : List Check) (rule other : Rule) → firstOf cs rule ≡ Passes other → AllHold cs × (rule ≡ other)
+passes-all [] rule other e = (tt, cc)
+passes-all (c ∷ cs) rule other e = here (c .0) (λ h. passes-all cs rule other h) e
   where
-    here : (f : Bool) → (firstOf cs rule ≡ Passes other → AllHold cs) → cond f (Fails (c .1)) (firstOf cs rule) ≡ Passes other
-        → (f ≡ false) × AllHold cs
-    here false more e′ = (refl, more e′)
-    here true more e′ = absurd (let z : _≡_ {A = ℕ} 0 1 = cc in omega arith)
-
-pub same-rule : (cs : List Check) (rule other : Rule) → firstOf cs rule ≡ Passes other → rule ≡ other
-same-rule [] rule other e = cc
-same-rule (c ∷ cs) rule other e = here (c .0) (λ h. same-rule cs rule other h) e
-  where
-    here : (f : Bool) → (firstOf cs rule ≡ Passes other → rule ≡ other) → cond f (Fails (c .1)) (firstOf cs rule) ≡ Passes other
-        → rule ≡ other
-    here false more e′ = more e′
+    here : (f : Bool) → (firstOf cs rule ≡ Passes other → AllHold cs × (rule ≡ other)) → cond f (Fails (c .1)) (firstOf cs rule) ≡ Passes other
+        → ((f ≡ false) × AllHold cs) × (rule ≡ other)
+    here false more e′ = ((refl, more e′ .0), more e′ .1)
     here true more e′ = absurd (let z : _≡_ {A = ℕ} 0 1 = cc in omega arith)

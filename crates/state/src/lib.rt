@@ -10,7 +10,7 @@ use disc::BytePlace;
 // Key, additional code, qualifier.
 pub struct Sense(pub u8, pub u8, pub u8);
 
-const NO_SENSE: Sense = Sense(0x00, 0x00, 0x00);
+pub const NO_SENSE: Sense = Sense(0x00, 0x00, 0x00);
 
 const UNKNOWN_CODE: Sense = Sense(0x05, 0x20, 0x00);
 

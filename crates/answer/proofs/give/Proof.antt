@@ -1,0 +1,66 @@
+use borrow.Author.Needs.{needs}
+use Rattle.answer.specs.Giving.{giveOf, answerOf, allocationOf}
+use Rattle.answer.proofs.give.Statement.{statement}
+use Rattle.answer.proofs.give.Tie as tie
+
+returns : tie.Need-returns
+unfolding giveOf answerOf allocationOf
+returns c =
+    let answer = c .before .before .before .before .before in
+    rw (answer .before .before .enum-told .given .1, ← answer .sense-data .ensures) (c .before .before .put .ensures)
+
+returns-2 : tie.Need-returns-2
+unfolding giveOf answerOf allocationOf
+returns-2 c =
+    let answer = c .before .before .before .before .before in
+    rw (answer .before .enum-told2 .given .1, ← answer .inquiry-data .ensures) (c .before .before .put2 .ensures)
+
+returns-3 : tie.Need-returns-3
+unfolding giveOf answerOf allocationOf
+returns-3 c =
+    rw (c .before .before .before .before .enum-told3 .given .1) (c .before .before .put-capacities .ensures)
+
+returns-4 : tie.Need-returns-4
+unfolding giveOf answerOf allocationOf
+returns-4 c =
+    let answer = c .before .before .before .before .before in
+    rw (answer .before .enum-told4 .given .1, ← answer .capacity-data .ensures) (c .before .before .put3 .ensures)
+
+returns-5 : tie.Need-returns-5
+unfolding giveOf answerOf allocationOf
+returns-5 c =
+    let answer = c .before .before .before .before .before in
+    rw (answer .before .enum-told5 .given .1, ← answer .mode-data .ensures) (c .before .before .put4 .ensures)
+
+pub give-spec : {M : Type 1} → statement M
+give-spec =
+    tie.close
+    (tie.spec
+    (λ c. search needs)
+    (λ _ _. tt)
+    (λ c. search needs)
+    (λ _ _. tt)
+    (λ c. search needs)
+    (λ _ _. tt)
+    (λ c. search needs)
+    (λ _ _. tt)
+    (λ c. search needs)
+    (λ _ _. tt)
+    (λ c. search needs)
+    (λ _ _. tt)
+    (λ c. search needs)
+    (λ _ _. tt)
+    (λ c. search needs)
+    (λ _ _. tt)
+    (λ c. search needs)
+    (λ _ _. tt)
+    (λ c. search needs)
+    returns
+    (λ c. search needs)
+    returns-2
+    (λ c. search needs)
+    returns-3
+    (λ c. search needs)
+    returns-4
+    (λ c. search needs)
+    returns-5)

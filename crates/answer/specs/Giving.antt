@@ -1,0 +1,46 @@
+-- Paper 01, "Answers from the block buffer": how an answer gets there.
+use mathlib.Core.List.{List, _++_}
+use Prim.Native.Nat.{ℕ, min}
+use lib.Dec.{eqb}
+use lib.ListN.{length, take, drop}
+use Rattle.state.specs.declared.State.{State}
+use Rattle.packet.specs.declared.Answering.{Answering}
+use Rattle.packet.specs.declared.Answering.the-variants.{Sense, Inquiry, Capacities, Capacity, Mode}
+use Rattle.answer.specs.Answers.{senseData, inquiryData, capacityData, capacitiesData, modeData}
+
+-- how many bytes were put, and the buffer after
+pub record Filled : Type 0 where
+  pub count : ℕ
+  pub buffer : List ℕ
+
+abbrev pub filled : ℕ → List ℕ → Filled
+filled count buffer = record { count = count; buffer = buffer }
+
+-- "min(allocation, full size)"; a buffer shorter than that, which the drive never lends, is filled
+abbrev pub shareOf : List ℕ → ℕ → List ℕ → ℕ
+shareOf answer allocation buffer = min (min allocation (length answer)) (length buffer)
+
+-- "The first min(allocation, full size) bytes are put at the start of the block buffer, the rest of it is untouched"
+abbrev pub putOf : List ℕ → ℕ → List ℕ → Filled
+putOf answer allocation buffer =
+    filled (shareOf answer allocation buffer)
+    (take (shareOf answer allocation buffer) answer ++ drop (shareOf answer allocation buffer) buffer)
+
+-- each answer, from the state as it was, with the page control where it has one
+unfoldable pub answerOf : Answering → State → ℕ → List ℕ
+answerOf Sense s control = senseData (s .sense)
+answerOf Inquiry s control = inquiryData
+answerOf Capacities s control = capacitiesData (s .disc)
+answerOf Capacity s control = capacityData (s .disc)
+answerOf Mode s control = modeData (s .disc) (s .protected) (eqb control 1)
+
+-- 25 has "no allocation field"
+unfoldable pub allocationOf : Answering → ℕ → ℕ
+allocationOf Sense n = n
+allocationOf Inquiry n = n
+allocationOf Capacities n = n
+allocationOf Capacity n = 8
+allocationOf Mode n = n
+
+unfoldable pub giveOf : Answering → State → ℕ → ℕ → List ℕ → Filled
+giveOf a s control allocation buffer = putOf (answerOf a s control) (allocationOf a allocation) buffer
