@@ -1,3 +1,3 @@
 pub mod Below
 pub mod Find
-pub mod First
+pub mod Passing

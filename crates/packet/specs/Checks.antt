@@ -1,5 +1,5 @@
 -- Paper 01, "A command": "the first check to fail gives the sense".
-use mathlib.Core.Bool.{Bool, true, false, cond, not, _&&_, _||_}
+use mathlib.Core.Bool.{Bool, true, false, not, _&&_, _||_}
 use mathlib.Core.List.{List, [], _∷_}
 use Prim.Native.Nat.{ℕ, zero, suc, _+_, _/_, _%_}
 use lib.Bits.{bitAnd}
@@ -7,6 +7,7 @@ use lib.Dec.{eqb, leb, ltb}
 use Rattle.disc.specs.Formats.{formatOf}
 use Rattle.disc.specs.Masks.{maskRow}
 use Rattle.disc.specs.declared.BlockAddress.{BlockAddress}
+use Rattle.state.specs.First.{first}
 use Rattle.state.specs.declared.State.{State}
 use Rattle.state.specs.declared.Attention.the-variants.{PowerOn, Change}
 use Rattle.state.specs.declared.Fault.the-variants.{UnknownCode, OtherUnit, NoDisc, BadField, NotSaved, OutOfRange, Protected}
@@ -72,9 +73,15 @@ checksOf s rule p =
     ∷ (rule .asked .unprotected && s .protected gives Found Protected)
     ∷ []
 
+-- "the first check to fail gives the sense"
+abbrev pub failsB : Check → Bool
+failsB c = c .0
+
+abbrev pub failing : Check → Verdict
+failing c = Fails (c .1)
+
 abbrev pub firstOf : List Check → Rule → Verdict
-firstOf [] rule = Passes rule
-firstOf (c ∷ cs) rule = cond (c .0) (Fails (c .1)) (firstOf cs rule)
+firstOf cs rule = first failsB failing cs (Passes rule)
 
 -- A: "the operation code is a base command", then the others
 abbrev pub verdictOf : Known → State → List ℕ → Verdict

@@ -1,3 +1,4 @@
+pub mod First
 pub mod Senses
 pub mod States
 pub mod Sound

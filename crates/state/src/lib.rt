@@ -58,12 +58,7 @@ pub struct AnswerAt {
 }
 
 // A read or a write: `at` is a place on the disc.
-pub struct ReadAt {
-    pub at: BytePlace,
-    pub left: usize,
-}
-
-pub struct WriteAt {
+pub struct DiscAt {
     pub at: BytePlace,
     pub left: usize,
 }
@@ -71,8 +66,8 @@ pub struct WriteAt {
 pub enum Transfer {
     Closed,
     Answer(AnswerAt),
-    Read(ReadAt),
-    Write(WriteAt),
+    Read(DiscAt),
+    Write(DiscAt),
 }
 
 pub struct State {
@@ -251,21 +246,21 @@ fn ends_within(at: usize, left: usize, limit: usize) -> bool
 }
 
 // `at + left` is a multiple of the block length, with no sum that could wrap.
-fn ends_on_block(number: u8, at: BytePlace, left: usize) -> bool
-    ensures { λ r. ⌜ r ≡ endsOnBlockB number at left ⌝ }
+fn ends_on_block(number: u8, p: DiscAt) -> bool
+    ensures { λ r. ⌜ r ≡ endsOnBlockB number p ⌝ }
 {
     let block = disc::block_bytes(number);
     if block == 0 {
         return false;
     }
-    (at.0 % block + left % block) % block == 0
+    (p.at.0 % block + p.left % block) % block == 0
 }
 
-fn on_disc(number: u8, at: BytePlace, left: usize) -> bool
-    ensures { λ r. ⌜ r ≡ onDiscB number at left ⌝ }
+fn on_disc(number: u8, p: DiscAt) -> bool
+    ensures { λ r. ⌜ r ≡ onDiscB number p ⌝ }
 {
     let full = disc::disc_bytes(number);
-    (number != 0) & (0 < left) & ends_within(at.0, left, full)
+    (number != 0) & (0 < p.left) & ends_within(p.at.0, p.left, full)
 }
 
 fn open_soundly(number: u8, protected: bool, transfer: Transfer) -> bool
@@ -274,14 +269,8 @@ fn open_soundly(number: u8, protected: bool, transfer: Transfer) -> bool
     match transfer {
         Transfer::Closed => true,
         Transfer::Answer(p) => (0 < p.left) & ends_within(p.at, p.left, 1024),
-        Transfer::Read(p) => {
-            let at = p.at;
-            on_disc(number, at, p.left)
-        }
-        Transfer::Write(p) => {
-            let at = p.at;
-            on_disc(number, at, p.left) & ends_on_block(number, at, p.left) & !protected
-        }
+        Transfer::Read(p) => on_disc(number, p),
+        Transfer::Write(p) => on_disc(number, p) & ends_on_block(number, p) & !protected,
     }
 }
 

@@ -4,11 +4,12 @@ use Prim.Native.Nat.{_≤_, _-_}
 use native.Mathlib.Omega.{arith}
 use lib.ListN.{drop}
 use borrow.Author.Needs.{needs}
+use Rattle.state.proofs.First.{fails-here, holds-here, none-fails}
 use Rattle.state.specs.declared.Attention.the-variants.{PowerOn}
 use Rattle.state.specs.declared.Failure.the-variants.{Pending}
 use Rattle.packet.specs.declared.Check.{Check}
-use Rattle.packet.specs.Checks.{firstOf}
-use Rattle.packet.proofs.First.{fails-here, holds-here, none-fails}
+use Rattle.packet.specs.Checks.{failsB, failing, firstOf}
+use Rattle.packet.specs.declared.Verdict.the-variants.{Passes}
 use Rattle.packet.proofs.first_failure.Statement.{statement}
 use Rattle.packet.proofs.first_failure.Tie as tie
 
@@ -26,18 +27,18 @@ returns : tie.Need-returns Inv-loop μ-loop
 returns c =
     let at-loop = c .before .before .before in
     let x = at-loop .before .args in
-    sym (at-loop .loop .inv .1 ∙ fails-here (x .t1) (x .rule) past (at-loop .loop .i) (search needs) (c .if1 .taken))
+    sym (at-loop .loop .inv .1 ∙ fails-here failsB failing (x .t1) (Passes (x .rule)) (at-loop .loop .i) past (search needs) (c .if1 .taken))
 
 loop-again : tie.Need-loop-again Inv-loop μ-loop
 loop-again c =
     let at-loop = c .before .before .before in
     let x = at-loop .before .args in
-    (omega arith, at-loop .loop .inv .1 ∙ holds-here (x .t1) (x .rule) past (at-loop .loop .i) (search needs) (c .if1 .left))
+    (omega arith, at-loop .loop .inv .1 ∙ holds-here failsB failing (x .t1) (Passes (x .rule)) (at-loop .loop .i) past (search needs) (c .if1 .left))
 
 returns-2 : tie.Need-returns-2 Inv-loop μ-loop
 returns-2 c =
     let x = c .before .before .args in
-    sym (c .before .loop .inv .1 ∙ none-fails (x .t1) (x .rule) (c .before .loop .i) (search needs))
+    sym (c .before .loop .inv .1 ∙ none-fails failsB failing (x .t1) (Passes (x .rule)) (c .before .loop .i) (search needs))
 
 pub first-failure-spec : {M : Type 1} → statement M
 first-failure-spec =

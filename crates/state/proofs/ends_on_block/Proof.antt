@@ -15,18 +15,18 @@ returns c = rw (← c .before .block-bytes .ensures, eq-eqb _ _ (c .if1 .taken))
 
 add-result : tie.Need-add-result
 add-result c =
-    let x = c .before .before .before .args in
-    let b = c .before .before .block-bytes in
+    let x = c .before .before .before .before .args in
+    let b = c .before .before .before .block-bytes in
     let small : b .result ≤ bufferBytes = rw (b .ensures) (block-fits (x .number)) in
     let pos : 0 < b .result = omega arith in
-    omega (arith, mod-lt (x .at .0) pos, mod-lt (x .left) pos)
+    omega (arith, mod-lt (x .p .at .0) pos, mod-lt (x .p .left) pos)
 
 returns-2 : tie.Need-returns-2
 unfolding endsOnBlockB
 returns-2 c =
-    let x = c .before .before .before .args in
-    let b = c .before .before .block-bytes in
-    rw (← b .ensures, ne-eqb _ _ (c .before .if1 .left), ← add-mod (x .at .0) (x .left) (b .result))
+    let x = c .before .before .before .before .args in
+    let b = c .before .before .before .block-bytes in
+    rw (← b .ensures, ne-eqb _ _ (c .before .before .if1 .left), ← add-mod (x .p .at .0) (x .p .left) (b .result))
 
 pub ends-on-block-spec : {M : Type 1} → statement M
 ends-on-block-spec =

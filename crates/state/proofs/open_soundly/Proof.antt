@@ -17,7 +17,7 @@ returns-3 c = cc
 
 returns-4 : tie.Need-returns-4
 unfolding openSoundB
-returns-4 c = rw (c .before .before .before .before .transfer3 .given .1, c .ends-on-block .ensures, c .before .on-disc2 .ensures)
+returns-4 c = rw (c .before .before .before .transfer3 .given .1, c .ends-on-block .ensures, c .before .on-disc2 .ensures)
 
 pub open-soundly-spec : {M : Type 1} → statement M
 open-soundly-spec =

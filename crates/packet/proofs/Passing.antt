@@ -1,26 +1,13 @@
--- What one check says of the verdict, and what a passing verdict says of all checks. Assumes nothing.
+-- What a passing verdict says of all checks. Assumes nothing.
 use mathlib.Core.Path.{_≡_, refl}
 use mathlib.Core.Bool.{Bool, true, false, cond}
 use mathlib.Core.List.{List, [], _∷_}
-use Prim.Native.Nat.{ℕ, _+_, _≤_, _<_}
-use native.Mathlib.Numerals.{add-one}
+use Prim.Native.Nat.{ℕ}
 use native.Mathlib.Omega.{arith}
-use lib.ListN.{length, getD, drop, drop-of-length-le}
-use lib.Seq.{drop-cons}
 use Rattle.packet.specs.Checks.{firstOf}
 use Rattle.packet.specs.declared.Check.{Check}
 use Rattle.packet.specs.declared.Rule.{Rule}
 use Rattle.packet.specs.declared.Verdict.the-variants.{Passes, Fails}
-
-module _ (cs : List Check) (rule : Rule) (d : Check) (i : ℕ) (h : i < length cs) where
-  pub fails-here : getD cs i d .0 ≡ true → firstOf (drop i cs) rule ≡ Fails (getD cs i d .1)
-  fails-here e = rw (drop-cons cs i d h, e)
-
-  pub holds-here : getD cs i d .0 ≡ false → firstOf (drop i cs) rule ≡ firstOf (drop (i + 1) cs) rule
-  holds-here e = rw (add-one, drop-cons cs i d h, e)
-
-pub none-fails : (cs : List Check) (rule : Rule) (i : ℕ) → length cs ≤ i → firstOf (drop i cs) rule ≡ Passes rule
-none-fails cs rule i h = rw (drop-of-length-le cs h)
 
 abbrev pub AllHold : List Check → Type 0
 AllHold [] = Unit

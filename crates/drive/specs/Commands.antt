@@ -1,0 +1,107 @@
+-- Paper 01, "A command": what a packet makes of the state and of what was lent.
+use mathlib.Core.Bool.{Bool, true, false, cond}
+use mathlib.Core.List.{List}
+use Prim.Native.Nat.{ℕ, _/_, _%_}
+use lib.Dec.{eqb}
+use lib.ListN.{length}
+use Rattle.disc.specs.Formats.{placeOf, runBytes}
+use Rattle.disc.specs.declared.BlockAddress.{BlockAddress}
+use Rattle.state.specs.States.{failedOf, passedOf}
+use Rattle.state.specs.declared.State.{State}
+use Rattle.state.specs.declared.DiscAt.{DiscAt}
+use Rattle.state.specs.declared.Transfer.{Transfer}
+use Rattle.state.specs.declared.Transfer.the-variants.{Closed, Answer as AnswerFrom, Read as ReadFrom, Write as WriteTo}
+use Rattle.packet.specs.Fields.{byteAt, addressOf, lengthOf}
+use Rattle.packet.specs.Checks.{verdict}
+use Rattle.packet.specs.declared.Rule.{Rule}
+use Rattle.packet.specs.declared.Verdict.{Verdict}
+use Rattle.packet.specs.declared.Verdict.the-variants.{Passes, Fails}
+use Rattle.packet.specs.declared.Routine.{Routine}
+use Rattle.packet.specs.declared.Routine.the-variants.{Nothing, Motor, Answer, Read, Write}
+use Rattle.answer.specs.Giving.{Filled, giveOf}
+use Rattle.drive.specs.declared.CommandReply.{CommandReply}
+use Rattle.drive.specs.House.{numberOf, firstRefusal, commandTests}
+
+-- "with 0 bytes it stays closed", "length 0 passes and stays closed"
+abbrev pub openedOf : ℕ → Transfer → Transfer
+openedOf left transfer = cond (eqb left 0) Closed transfer
+
+-- the bytes of so many blocks from an address
+unfoldable pub spanOf : ℕ → BlockAddress → ℕ → DiscAt
+spanOf number from blocks = record { at = placeOf number from; left = runBytes number blocks }
+
+-- the state and the block buffer after a command
+pub record After : Type 0 where
+  pub state : State
+  pub buffer : List ℕ
+
+abbrev pub after : State → List ℕ → After
+after state buffer = record { state = state; buffer = buffer }
+
+-- "the transfer opens on them"
+abbrev pub answeredOf : State → Filled → After
+answeredOf s f = after (passedOf s (s .motor) (openedOf (f .count) (AnswerFrom (record { at = 0; left = f .count })))) (f .buffer)
+
+-- "1B sets the motor flag from byte 4 bit 0"; "28 and A8 (each a READ) open a read, 2A, 2E and AA (each a WRITE) a write";
+-- "00, 01, 1E, 2B, 2F pass and do nothing more"
+abbrev pub routineOf : Routine → State → List ℕ → ℕ → List ℕ → After
+routineOf Nothing s p n buffer = after (passedOf s (s .motor) Closed) buffer
+routineOf Motor s p n buffer = after (passedOf s (eqb (byteAt p 4 % 2) 1) Closed) buffer
+routineOf (Answer a) s p n buffer = answeredOf s (giveOf a s (byteAt p 2 / 64) n buffer)
+routineOf Read s p n buffer =
+    let span = spanOf (s .disc) (addressOf p) n in
+    after (passedOf s (s .motor) (openedOf (span .left) (ReadFrom span))) buffer
+routineOf Write s p n buffer =
+    let span = spanOf (s .disc) (addressOf p) n in
+    after (passedOf s (s .motor) (openedOf (span .left) (WriteTo span))) buffer
+
+unfoldable pub performedOf : State → Rule → List ℕ → List ℕ → After
+performedOf s rule p buffer = routineOf (rule .routine) s p (lengthOf (rule .length) p) buffer
+
+-- past the house tests: passed or failed, and what follows
+pub record Obeyed : Type 0 where
+  pub house : ℕ
+  pub passed : Bool
+  pub after : After
+
+abbrev pub obeyed : CommandReply → List ℕ → Obeyed
+obeyed r buffer = record { house = numberOf (r .house); passed = r .passed; after = after (r .state) buffer }
+
+abbrev pub obeyedWith : Bool → After → Obeyed
+obeyedWith passed after = record { house = 0; passed = passed; after = after }
+
+-- a failed command leaves the block buffer
+abbrev pub obeyedOf : Verdict → State → List ℕ → List ℕ → Obeyed
+obeyedOf (Fails f) s p buffer = obeyedWith false (after (failedOf s f) buffer)
+obeyedOf (Passes rule) s p buffer = obeyedWith true (performedOf s rule p buffer)
+
+-- all that a call can change
+pub record World : Type 0 where
+  pub state : State
+  pub buffer : List ℕ
+  pub disc : List ℕ
+
+abbrev pub world : State → List ℕ → List ℕ → World
+world state buffer disc = record { state = state; buffer = buffer; disc = disc }
+
+-- the paper's house number, whether the command passed, and the world after
+pub record Commanded : Type 0 where
+  pub house : ℕ
+  pub passed : Bool
+  pub world : World
+
+abbrev pub commanded : CommandReply → List ℕ → List ℕ → Commanded
+commanded r buffer disc = record { house = numberOf (r .house); passed = r .passed; world = world (r .state) buffer disc }
+
+-- a command never writes the disc
+abbrev pub onDisc : Obeyed → List ℕ → Commanded
+onDisc o disc = record { house = o .house; passed = o .passed; world = world (o .after .state) (o .after .buffer) disc }
+
+abbrev pub commandHouse : World → List ℕ → ℕ
+commandHouse w p = firstRefusal (commandTests (w .state) (length p) (length (w .buffer)) (length (w .disc)))
+
+-- "Each returns its number .. and leaves state, disc, block buffer .. as they were."
+unfoldable pub commandOf : World → List ℕ → Commanded
+commandOf w p =
+    cond (eqb (commandHouse w p) 0) (onDisc (obeyedOf (verdict (w .state) p) (w .state) p (w .buffer)) (w .disc))
+    (record { house = commandHouse w p; passed = false; world = w })

@@ -1,0 +1,234 @@
+// The box: its entries, each with its house refusals. An entry is answered whatever it is lent.
+ghost use mathlib.Core.Path.{_≡_};
+ghost use lib.ListN.{length};
+ghost use Rattle.state.specs.States.{powerOn};
+ghost use Rattle.packet.specs.Checks.{verdict};
+ghost use Rattle.drive.specs.House.{numberOf, firstNumber, firstRefusal, commandTests, insertTests, ejectTests};
+ghost use Rattle.drive.specs.Events.{happened, insertOf, ejectOf};
+ghost use Rattle.drive.specs.Commands.{openedOf, spanOf, after, performedOf, obeyed, obeyedOf, world, commanded, commandOf};
+use disc::BlockAddress;
+use packet::Routine;
+use packet::Rule;
+use packet::Verdict;
+use state::AnswerAt;
+use state::DiscAt;
+use state::State;
+use state::Transfer;
+
+pub enum House {
+    Accepted,
+    PacketLength,
+    Unsound,
+    BufferLength,
+    DiscLength,
+    DiscIn,
+    NoDiscIn,
+    NoSuchDisc,
+}
+
+// Whether a house test fails, and the refusal that it then gives.
+pub struct Test(pub bool, pub House);
+
+const PASSED: Test = Test(false, House::Accepted);
+
+pub struct EventReply {
+    pub house: House,
+    pub state: State,
+}
+
+pub struct CommandReply {
+    pub house: House,
+    pub passed: bool,
+    pub state: State,
+}
+
+// The house number, 0 where the call is accepted.
+pub fn number_of(house: House) -> u8
+    ensures { λ r. ⌜ r ≡ numberOf house ⌝ }
+{
+    match house {
+        House::Accepted => 0,
+        House::PacketLength => 1,
+        House::Unsound => 2,
+        House::BufferLength => 3,
+        House::DiscLength => 4,
+        House::DiscIn => 5,
+        House::NoDiscIn => 6,
+        House::NoSuchDisc => 7,
+    }
+}
+
+pub fn power_on() -> State
+    ensures { λ r. ⌜ r ≡ powerOn ⌝ }
+{
+    state::power_on()
+}
+
+fn first_refusal(tests: [Test; 4]) -> House
+    ensures { λ r. ⌜ numberOf r ≡ firstNumber tests ⌝ }
+{
+    let mut i = 0;
+    while i < 4 {
+        let test = tests[i];
+        let house = test.1;
+        if test.0 {
+            return house;
+        }
+        i += 1;
+    }
+    House::Accepted
+}
+
+fn insert_house(state: State, number: u8, disc: usize) -> House
+    ensures { λ r. ⌜ numberOf r ≡ firstRefusal (insertTests state number disc) ⌝ }
+{
+    first_refusal([
+        Test(!state::sound(state), House::Unsound),
+        Test(state.disc != 0, House::DiscIn),
+        Test((number == 0) | (4 < number), House::NoSuchDisc),
+        Test(disc != disc::disc_bytes(number), House::DiscLength),
+    ])
+}
+
+pub fn insert(state: State, number: u8, protected: bool, disc: &[u8]) -> EventReply
+    ensures { λ r. ⌜ happened r ≡ insertOf state number protected (now (disc .entry)) ⌝ }
+{
+    let house = insert_house(state, number, disc.len());
+    if number_of(house) != 0 {
+        return EventReply {
+            house: house,
+            state: state,
+        };
+    }
+    let next = state::inserted(state, number, protected);
+    EventReply {
+        house: house,
+        state: next,
+    }
+}
+
+fn eject_house(state: State) -> House
+    ensures { λ r. ⌜ numberOf r ≡ firstRefusal (ejectTests state) ⌝ }
+{
+    first_refusal([
+        Test(!state::sound(state), House::Unsound),
+        Test(state.disc == 0, House::NoDiscIn),
+        PASSED,
+        PASSED,
+    ])
+}
+
+pub fn eject(state: State) -> EventReply
+    ensures { λ r. ⌜ happened r ≡ ejectOf state ⌝ }
+{
+    let house = eject_house(state);
+    if number_of(house) != 0 {
+        return EventReply {
+            house: house,
+            state: state,
+        };
+    }
+    let next = state::ejected(state);
+    EventReply {
+        house: house,
+        state: next,
+    }
+}
+
+fn command_house(state: State, packet: usize, buffer: usize, disc: usize) -> House
+    ensures { λ r. ⌜ numberOf r ≡ firstRefusal (commandTests state packet buffer disc) ⌝ }
+{
+    first_refusal([
+        Test(packet != 12, House::PacketLength),
+        Test(!state::sound(state), House::Unsound),
+        Test(buffer != 1024, House::BufferLength),
+        Test(disc != disc::disc_bytes(state.disc), House::DiscLength),
+    ])
+}
+
+// With no byte left a transfer is closed.
+fn opened(left: usize, transfer: Transfer) -> Transfer
+    ensures { λ r. ⌜ r ≡ openedOf left transfer ⌝ }
+{
+    if left == 0 {
+        return Transfer::Closed;
+    }
+    transfer
+}
+
+// The bytes of so many blocks from an address.
+fn span(number: u8, from: BlockAddress, blocks: u32) -> DiscAt
+    ensures { λ r. ⌜ r ≡ spanOf number from blocks ⌝ }
+{
+    let at = disc::place_of(number, from);
+    DiscAt {
+        at: at,
+        left: disc::run_bytes(number, blocks),
+    }
+}
+
+// What a command that has passed does.
+fn performed(state: State, rule: Rule, packet: &[u8], buffer: &mut [u8]) -> State
+    ensures { λ r. ⌜ after r (now (buffer .exit)) ≡ performedOf state rule (now (packet .entry)) (now (buffer .entry)) ⌝ }
+{
+    let field = rule.length;
+    let routine = rule.routine;
+    let length = packet::length(field, packet);
+    match routine {
+        Routine::Nothing => state::passed(state, state.motor, Transfer::Closed),
+        Routine::Motor => state::passed(state, packet::byte(packet, 4) % 2 == 1, Transfer::Closed),
+        Routine::Answer(answering) => {
+            let control = packet::byte(packet, 2) / 64;
+            let left = answer::give(answering, state, control, length as usize, buffer);
+            let transfer = opened(left, Transfer::Answer(AnswerAt { at: 0, left: left }));
+            state::passed(state, state.motor, transfer)
+        }
+        Routine::Read => {
+            let p = span(state.disc, packet::address(packet), length);
+            state::passed(state, state.motor, opened(p.left, Transfer::Read(p)))
+        }
+        Routine::Write => {
+            let p = span(state.disc, packet::address(packet), length);
+            state::passed(state, state.motor, opened(p.left, Transfer::Write(p)))
+        }
+    }
+}
+
+// A packet past the house tests.
+fn judged(state: State, packet: &[u8], buffer: &mut [u8]) -> CommandReply
+    ensures { λ r. ⌜ obeyed r (now (buffer .exit)) ≡ obeyedOf (verdict state (now (packet .entry))) state (now (packet .entry)) (now (buffer .entry)) ⌝ }
+{
+    let verdict = packet::judge(state, packet);
+    match verdict {
+        Verdict::Fails(failure) => {
+            let next = state::failed(state, failure);
+            CommandReply {
+                house: House::Accepted,
+                passed: false,
+                state: next,
+            }
+        }
+        Verdict::Passes(rule) => {
+            let next = performed(state, rule, packet, buffer);
+            CommandReply {
+                house: House::Accepted,
+                passed: true,
+                state: next,
+            }
+        }
+    }
+}
+
+pub fn command(state: State, packet: &[u8], buffer: &mut [u8], disc: &[u8]) -> CommandReply
+    ensures { λ r. ⌜ commanded r (now (buffer .exit)) (now (disc .entry)) ≡ commandOf (world state (now (buffer .entry)) (now (disc .entry))) (now (packet .entry)) ⌝ }
+{
+    let house = command_house(state, packet.len(), buffer.len(), disc.len());
+    if number_of(house) != 0 {
+        return CommandReply {
+            house: house,
+            passed: false,
+            state: state,
+        };
+    }
+    judged(state, packet, buffer)
+}
