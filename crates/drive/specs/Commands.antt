@@ -58,23 +58,6 @@ routineOf Write s p n buffer =
 unfoldable pub performedOf : State → Rule → List ℕ → List ℕ → After
 performedOf s rule p buffer = routineOf (rule .routine) s p (lengthOf (rule .length) p) buffer
 
--- past the house tests: passed or failed, and what follows
-pub record Obeyed : Type 0 where
-  pub house : ℕ
-  pub passed : Bool
-  pub after : After
-
-abbrev pub obeyed : CommandReply → List ℕ → Obeyed
-obeyed r buffer = record { house = numberOf (r .house); passed = r .passed; after = after (r .state) buffer }
-
-abbrev pub obeyedWith : Bool → After → Obeyed
-obeyedWith passed after = record { house = 0; passed = passed; after = after }
-
--- a failed command leaves the block buffer
-abbrev pub obeyedOf : Verdict → State → List ℕ → List ℕ → Obeyed
-obeyedOf (Fails f) s p buffer = obeyedWith false (after (failedOf s f) buffer)
-obeyedOf (Passes rule) s p buffer = obeyedWith true (performedOf s rule p buffer)
-
 -- all that a call can change
 pub record World : Type 0 where
   pub state : State
@@ -94,8 +77,13 @@ abbrev pub commanded : CommandReply → List ℕ → List ℕ → Commanded
 commanded r buffer disc = record { house = numberOf (r .house); passed = r .passed; world = world (r .state) buffer disc }
 
 -- a command never writes the disc
-abbrev pub onDisc : Obeyed → List ℕ → Commanded
-onDisc o disc = record { house = o .house; passed = o .passed; world = world (o .after .state) (o .after .buffer) disc }
+abbrev pub accepted : Bool → After → List ℕ → Commanded
+accepted passed a disc = record { house = 0; passed = passed; world = world (a .state) (a .buffer) disc }
+
+-- past the house tests; a failed command leaves the block buffer
+abbrev pub obeyedOf : Verdict → World → List ℕ → Commanded
+obeyedOf (Fails f) w p = accepted false (after (failedOf (w .state) f) (w .buffer)) (w .disc)
+obeyedOf (Passes rule) w p = accepted true (performedOf (w .state) rule p (w .buffer)) (w .disc)
 
 abbrev pub commandHouse : World → List ℕ → ℕ
 commandHouse w p = firstRefusal (commandTests (w .state) (length p) (length (w .buffer)) (length (w .disc)))
@@ -103,5 +91,5 @@ commandHouse w p = firstRefusal (commandTests (w .state) (length p) (length (w .
 -- "Each returns its number .. and leaves state, disc, block buffer .. as they were."
 unfoldable pub commandOf : World → List ℕ → Commanded
 commandOf w p =
-    cond (eqb (commandHouse w p) 0) (onDisc (obeyedOf (verdict (w .state) p) (w .state) p (w .buffer)) (w .disc))
+    cond (eqb (commandHouse w p) 0) (obeyedOf (verdict (w .state) p) w p)
     (record { house = commandHouse w p; passed = false; world = w })

@@ -1,3 +1,5 @@
 pub mod House
 pub mod Events
 pub mod Commands
+pub mod Theorems
+pub mod Cases

@@ -1,11 +1,9 @@
 // The box: its entries, each with its house refusals. An entry is answered whatever it is lent.
 ghost use mathlib.Core.Path.{_≡_};
-ghost use lib.ListN.{length};
 ghost use Rattle.state.specs.States.{powerOn};
-ghost use Rattle.packet.specs.Checks.{verdict};
 ghost use Rattle.drive.specs.House.{numberOf, firstNumber, firstRefusal, commandTests, insertTests, ejectTests};
 ghost use Rattle.drive.specs.Events.{happened, insertOf, ejectOf};
-ghost use Rattle.drive.specs.Commands.{openedOf, spanOf, after, performedOf, obeyed, obeyedOf, world, commanded, commandOf};
+ghost use Rattle.drive.specs.Commands.{openedOf, spanOf, after, performedOf, world, commanded, commandOf};
 use disc::BlockAddress;
 use packet::Routine;
 use packet::Rule;
@@ -194,10 +192,17 @@ fn performed(state: State, rule: Rule, packet: &[u8], buffer: &mut [u8]) -> Stat
     }
 }
 
-// A packet past the house tests.
-fn judged(state: State, packet: &[u8], buffer: &mut [u8]) -> CommandReply
-    ensures { λ r. ⌜ obeyed r (now (buffer .exit)) ≡ obeyedOf (verdict state (now (packet .entry))) state (now (packet .entry)) (now (buffer .entry)) ⌝ }
+pub fn command(state: State, packet: &[u8], buffer: &mut [u8], disc: &[u8]) -> CommandReply
+    ensures { λ r. ⌜ commanded r (now (buffer .exit)) (now (disc .entry)) ≡ commandOf (world state (now (buffer .entry)) (now (disc .entry))) (now (packet .entry)) ⌝ }
 {
+    let house = command_house(state, packet.len(), buffer.len(), disc.len());
+    if number_of(house) != 0 {
+        return CommandReply {
+            house: house,
+            passed: false,
+            state: state,
+        };
+    }
     let verdict = packet::judge(state, packet);
     match verdict {
         Verdict::Fails(failure) => {
@@ -217,18 +222,4 @@ fn judged(state: State, packet: &[u8], buffer: &mut [u8]) -> CommandReply
             }
         }
     }
-}
-
-pub fn command(state: State, packet: &[u8], buffer: &mut [u8], disc: &[u8]) -> CommandReply
-    ensures { λ r. ⌜ commanded r (now (buffer .exit)) (now (disc .entry)) ≡ commandOf (world state (now (buffer .entry)) (now (disc .entry))) (now (packet .entry)) ⌝ }
-{
-    let house = command_house(state, packet.len(), buffer.len(), disc.len());
-    if number_of(house) != 0 {
-        return CommandReply {
-            house: house,
-            passed: false,
-            state: state,
-        };
-    }
-    judged(state, packet, buffer)
 }

@@ -1,6 +1,6 @@
 -- What the default of a `match` on a code knows is enough for the table: a code that is none of the keys has no entry. Assumes nothing.
 use mathlib.Core.Path.{_≡_, refl}
-use mathlib.Core.Bool.{Bool, true, false, _||_, _&&_}
+use mathlib.Core.Bool.{Bool, true, false, _||_, _&&_, false≢true}
 use mathlib.Core.List.{List, [], _∷_}
 use Prim.Native.Nat.{ℕ}
 use borrow.Author.Tests.{ne-eqb, eqb-true}
@@ -23,7 +23,7 @@ allKeys [] ks = true
 allKeys (e ∷ es) ks = isKey (e .code) ks && allKeys es ks
 
 not-key : (code : ℕ) (ks : List ℕ) → NoneOf code ks → (x : ℕ) → isKey x ks ≡ true → eqb code x ≡ false
-not-key code [] n x t = let z : false ≡ true = t in cc
+not-key code [] n x t = absurd (false≢true t)
 not-key code (k ∷ ks) n x t = here (eqb x k) refl (λ t′. not-key code ks (n .0) x t′) t
   where
     here : (b : Bool) → eqb x k ≡ b → (isKey x ks ≡ true → eqb code x ≡ false) → (b || isKey x ks) ≡ true → eqb code x ≡ false

@@ -1,3 +1,4 @@
 pub mod Below
 pub mod Find
 pub mod Passing
+pub mod Table

@@ -1,24 +1,20 @@
--- What a passing verdict says of all checks. Assumes nothing.
-use mathlib.Core.Path.{_≡_, refl}
-use mathlib.Core.Bool.{Bool, true, false, cond}
-use mathlib.Core.List.{List, [], _∷_}
+-- What a passing verdict says of the checks. Assumes nothing.
+use mathlib.Core.Path.{_≡_, refl, sym, _∙_, ap}
+use mathlib.Core.Bool.{Bool, true, false}
+use mathlib.Core.List.{List}
 use Prim.Native.Nat.{ℕ}
-use native.Mathlib.Omega.{arith}
-use Rattle.packet.specs.Checks.{firstOf}
-use Rattle.packet.specs.declared.Check.{Check}
+use Rattle.state.specs.declared.State.{State}
+use Rattle.state.proofs.First.{NoneFails, none-failed}
+use Rattle.packet.specs.Checks.{failsB, failing, checksOf, firstOf}
 use Rattle.packet.specs.declared.Rule.{Rule}
+use Rattle.packet.specs.declared.Verdict.{Verdict}
 use Rattle.packet.specs.declared.Verdict.the-variants.{Passes, Fails}
 
-abbrev pub AllHold : List Check → Type 0
-AllHold [] = Unit
-AllHold (c ∷ cs) = (c .0 ≡ false) × AllHold cs
+abbrev pub passesB : Verdict → Bool
+passesB (Passes rule) = true
+passesB (Fails failure) = false
 
--- a verdict that passes says that all checks hold, and keeps the rule
-pub passes-all : (cs : List Check) (rule other : Rule) → firstOf cs rule ≡ Passes other → AllHold cs × (rule ≡ other)
-passes-all [] rule other e = (tt, cc)
-passes-all (c ∷ cs) rule other e = here (c .0) (λ h. passes-all cs rule other h) e
-  where
-    here : (f : Bool) → (firstOf cs rule ≡ Passes other → AllHold cs × (rule ≡ other)) → cond f (Fails (c .1)) (firstOf cs rule) ≡ Passes other
-        → ((f ≡ false) × AllHold cs) × (rule ≡ other)
-    here false more e′ = ((refl, more e′ .0), more e′ .1)
-    here true more e′ = absurd (let z : _≡_ {A = ℕ} 0 1 = cc in omega arith)
+pub passing : (s : State) (rule : Rule) (p : List ℕ) → passesB (firstOf (checksOf s rule p) rule) ≡ true
+    → NoneFails failsB failing passesB (checksOf s rule p) × (firstOf (checksOf s rule p) rule ≡ Passes rule)
+unfolding checksOf
+passing s rule p e = none-failed failsB failing passesB (checksOf s rule p) (Passes rule) refl e

@@ -1,11 +1,13 @@
--- What one test says of the first that fails, as a loop over the tests learns it. Assumes nothing.
-use mathlib.Core.Path.{_≡_}
-use mathlib.Core.Bool.{Bool, true, false}
-use mathlib.Core.List.{List}
+-- What one test says of the first that fails, and the first that fails of all tests. Assumes nothing.
+use mathlib.Core.Path.{_≡_, refl, sym, _∙_}
+use mathlib.Core.Bool.{Bool, true, false, not, _&&_, false≢true}
+use mathlib.Core.List.{List, [], _∷_}
 use Prim.Native.Nat.{ℕ, _+_, _≤_, _<_}
 use native.Mathlib.Numerals.{add-one}
+use borrow.Author.Tests.{not-true}
 use lib.ListN.{length, getD, drop, drop-of-length-le}
 use lib.Seq.{drop-cons}
+use Rattle.disc.proofs.Truth.{both}
 use Rattle.state.specs.First.{first}
 
 module _ {A B : Type 0} (fails : A → Bool) (gives : A → B) (xs : List A) (other : B) (i : ℕ) where
@@ -18,3 +20,26 @@ module _ {A B : Type 0} (fails : A → Bool) (gives : A → B) (xs : List A) (ot
 
   pub none-fails : length xs ≤ i → first fails gives (drop i xs) other ≡ other
   none-fails h = rw (drop-of-length-le xs h)
+
+-- where none of the answers is of some kind, and the outcome is, no test failed and the outcome is the other
+module _ {A B : Type 0} (fails : A → Bool) (gives : A → B) (kind : B → Bool) where
+  abbrev pub barredB : List A → Bool
+  barredB [] = true
+  barredB (x ∷ xs) = not (kind (gives x)) && barredB xs
+
+  abbrev pub NoneFails : List A → Type 0
+  NoneFails [] = Unit
+  NoneFails (x ∷ xs) = (fails x ≡ false) × NoneFails xs
+
+  pub none-failed : (xs : List A) (other : B) → barredB xs ≡ true → kind (first fails gives xs other) ≡ true
+      → NoneFails xs × (first fails gives xs other ≡ other)
+  none-failed [] other b k = (tt, refl)
+  none-failed (x ∷ xs) other b k =
+      let (one, rest) = both (not (kind (gives x))) (barredB xs) b in
+      here (fails x) refl (not-true (kind (gives x)) one) (λ k′. none-failed xs other rest k′)
+    where
+      here : (f : Bool) → fails x ≡ f → kind (gives x) ≡ false
+          → (kind (first fails gives xs other) ≡ true → NoneFails xs × (first fails gives xs other ≡ other))
+          → NoneFails (x ∷ xs) × (first fails gives (x ∷ xs) other ≡ other)
+      here false e barred more = let (all, same) = more (rw e at k) in ((e, all), rw e same)
+      here true e barred more = absurd (false≢true (sym barred ∙ (rw e at k)))

@@ -1,7 +1,8 @@
-use mathlib.Core.Path.{ap}
-use borrow.Author.Tests.{eq-eqb, ne-eqb}
+use mathlib.Core.Path.{_≡_, ap}
+use mathlib.Core.Bool.{true}
 use borrow.Author.Needs.{needs}
-use Rattle.drive.specs.Commands.{Obeyed, onDisc, commandOf}
+use borrow.Author.Tests.{eq-eqb, ne-eqb}
+use Rattle.drive.specs.Commands.{After, accepted, World, world, obeyedOf, commandOf}
 use Rattle.drive.proofs.command.Statement.{statement}
 use Rattle.drive.proofs.command.Tie as tie
 
@@ -9,15 +10,32 @@ returns : tie.Need-returns
 unfolding commandOf
 returns c = rw (← c .before .before .command-house .ensures, ← c .before .number-of .ensures, ne-eqb _ _ (c .if1 .taken))
 
-returns-2 : tie.Need-returns-2
+abbrev lent : tie.After-command-house → World
+lent h = let x = h .before .before .before .before .args in world (x .state) (x .buffer .now) (x .disc .now)
+
+-- past the house tests the verdict decides
+judged : (j : tie.After-judge)
+    → commandOf (lent (j .before .before .before)) (j .before .before .before .before .before .before .before .args .packet .now)
+    ≡ obeyedOf (j .judge .result) (lent (j .before .before .before)) (j .before .before .before .before .before .before .before .args .packet .now)
 unfolding commandOf
-returns-2 c =
-    let judged = c .before .before in
-    let at-if = judged .before .before in
-    let house = at-if .before .before in
-    let x = house .before .before .before .before .args in
-    rw (← house .command-house .ensures, ← at-if .before .number-of .ensures, eq-eqb _ _ (at-if .if1 .left))
-    (ap (λ (o : Obeyed). onDisc o (x .disc .now)) (judged .judged .ensures))
+judged j =
+    rw (
+      ← j .before .before .before .command-house .ensures,
+      ← j .before .before .number-of .ensures,
+      eq-eqb _ _ (j .before .if1 .left),
+      ← j .judge .ensures,
+    )
+
+returns-2 : tie.Need-returns-2
+returns-2 c = rw (judged (c .before .before .before .before), c .before .before .verdict .given .1, c .failed .ensures)
+
+returns-3 : tie.Need-returns-3
+returns-3 c =
+    let performed = c .before .before in
+    let verdict = performed .before .before .before in
+    let judge = verdict .before .before in
+    rw (judged judge, verdict .verdict2 .given .1)
+    (ap (λ (a : After). accepted true a (lent (judge .before .before .before) .disc)) (performed .performed .ensures))
 
 pub command-spec : {M : Type 1} → statement M
 command-spec =
@@ -28,4 +46,9 @@ command-spec =
     returns
     (λ _ _. tt)
     (λ c. search needs)
-    returns-2)
+    (λ _ _. tt)
+    (λ c. search needs)
+    (λ _ _. tt)
+    returns-2
+    (λ c. search needs)
+    returns-3)

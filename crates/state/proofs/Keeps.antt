@@ -1,0 +1,82 @@
+-- Every step that the state takes keeps it sound. Assumes nothing.
+use mathlib.Core.Path.{_≡_, refl}
+use mathlib.Core.Bool.{Bool, true, false, not, _&&_, _||_, false≢true}
+use Prim.Native.Nat.{ℕ, _≤_}
+use borrow.Author.Tests.{le-leb, ne-eqb}
+use lib.Dec.{eqb, leb}
+use Rattle.disc.proofs.Truth.{both}
+use Rattle.state.specs.declared.Sense.{Sense}
+use Rattle.state.specs.declared.State.{State}
+use Rattle.state.specs.declared.Attention.the-variants.{PowerOn, Change}
+use Rattle.state.specs.declared.Fault.the-variants.{UnknownCode, OtherUnit, NoDisc, BadField, NotSaved, OutOfRange, Protected}
+use Rattle.state.specs.declared.Failure.{Failure}
+use Rattle.state.specs.declared.Failure.the-variants.{Pending, Found}
+use Rattle.state.specs.declared.Transfer.{Transfer}
+use Rattle.state.specs.declared.Transfer.the-variants.{Closed, Answer, Read, Write}
+use Rattle.state.specs.Senses.{senseOf, namedB}
+use Rattle.state.specs.States.{senseAfter, insertedOf, ejectedOf, failedOf, passedOf}
+use Rattle.state.specs.Sound.{onDiscB, openSoundB, soundB}
+
+-- the clauses of soundness
+pub record Parts (s : State) : Type 0 where
+  pub low : leb (s .disc) 4 ≡ true
+  pub bare : (not (eqb (s .disc) 0) || not (s .protected)) ≡ true
+  pub named : namedB (s .sense) ≡ true
+  pub opened : openSoundB (s .disc) (s .protected) (s .transfer) ≡ true
+
+pub parts : (s : State) → soundB s ≡ true → Parts s
+unfolding soundB
+parts s e =
+    let a = leb (s .disc) 4 in
+    let b = not (eqb (s .disc) 0) || not (s .protected) in
+    let n = namedB (s .sense) in
+    let (abn, o) = both (a && b && n) (openSoundB (s .disc) (s .protected) (s .transfer)) e in
+    let (ab, n′) = both (a && b) n abn in
+    let (a′, b′) = both a b ab in
+    record { low = a′; bare = b′; named = n′; opened = o }
+
+named-of : (f : Failure) → namedB (senseOf f) ≡ true
+unfolding namedB
+named-of (Pending PowerOn) = refl
+named-of (Pending Change) = refl
+named-of (Found UnknownCode) = refl
+named-of (Found OtherUnit) = refl
+named-of (Found NoDisc) = refl
+named-of (Found BadField) = refl
+named-of (Found NotSaved) = refl
+named-of (Found OutOfRange) = refl
+named-of (Found Protected) = refl
+
+pub failed-sound : (s : State) (f : Failure) → soundB s ≡ true → soundB (failedOf s f) ≡ true
+unfolding soundB failedOf openSoundB
+failed-sound s f e = let p = parts s e in rw (p .low, p .bare, named-of f)
+
+pub passed-sound : (s : State) (motor : Bool) (t : Transfer) → soundB s ≡ true → openSoundB (s .disc) (s .protected) t ≡ true
+    → soundB (passedOf s motor t) ≡ true
+unfolding soundB passedOf namedB
+passed-sound s motor t e opened = let p = parts s e in rw (p .low, p .bare, opened)
+
+-- a transfer that is open without a disc stays sound with one
+with-disc : (number : ℕ) (off prot : Bool) (t : Transfer) → openSoundB 0 off t ≡ true → openSoundB number prot t ≡ true
+unfolding openSoundB onDiscB
+with-disc number off prot Closed e = refl
+with-disc number off prot (Answer p) e = e
+with-disc number off prot (Read p) e = absurd (false≢true e)
+with-disc number off prot (Write p) e = absurd (false≢true e)
+
+pub inserted-sound : (s : State) (number : ℕ) (prot : Bool) → s .disc ≡ 0 → (number ≡ 0 → ⊥) → number ≤ 4 → soundB s ≡ true
+    → soundB (insertedOf s number prot) ≡ true
+unfolding soundB insertedOf
+inserted-sound s number prot none is-in h e =
+    let p = parts s e in
+    rw (le-leb number 4 h, ne-eqb number 0 is-in, p .named, with-disc number (s .protected) prot (s .transfer) (rw none at (p .opened)))
+
+named-after : (sense : Sense) (t : Transfer) → namedB sense ≡ true → namedB (senseAfter sense t) ≡ true
+named-after sense Closed n = n
+named-after sense (Answer p) n = named-of (Found NoDisc)
+named-after sense (Read p) n = named-of (Found NoDisc)
+named-after sense (Write p) n = named-of (Found NoDisc)
+
+pub ejected-sound : (s : State) → soundB s ≡ true → soundB (ejectedOf s) ≡ true
+unfolding soundB ejectedOf openSoundB
+ejected-sound s e = rw (named-after (s .sense) (s .transfer) (parts s e .named))
