@@ -1,1 +1,5 @@
 pub mod Cases
+pub mod Houses
+pub mod Keeps
+pub mod Single
+pub mod Pending

@@ -41,8 +41,17 @@ abbrev pub _when_ : ℕ → Bool → Refusal
 number when given = record { number = number; given = given }
 
 -- the first that is given, 0 for none
+abbrev pub givenB : Refusal → Bool
+givenB r = r .given
+
+abbrev pub number : Refusal → ℕ
+number r = r .number
+
 abbrev pub firstRefusal : List Refusal → ℕ
-firstRefusal rs = first (λ r. r .given) (λ r. r .number) rs 0
+firstRefusal rs = first givenB number rs 0
+
+abbrev pub noneB : ℕ → Bool
+noneB house = eqb house 0
 
 -- the same of the tests as the code has them
 abbrev pub failsB : Test → Bool

@@ -1,0 +1,153 @@
+-- Every entry keeps soundness. Assumes nothing.
+use mathlib.Core.Path.{_≡_, refl, sym, _∙_, ap}
+use mathlib.Core.Bool.{Bool, true, false, cond, not, _&&_, _||_}
+use mathlib.Core.List.{List}
+use Prim.Native.Nat.{ℕ, _+_, _*_, _/_, _%_, _≤_, _<_}
+use native.Mathlib.Nat.{add-mul, mul-le-mul-right, mul-mod-left, mul-zero}
+use native.Mathlib.Omega.{arith}
+use borrow.Author.Tests.{leb-true, ltb-false, eqb-true, eqb-false, not-false, le-leb, lt-ltb, ne-eqb}
+use lib.Dec.{eqb, leb, ltb}
+use lib.ListN.{length}
+use Rattle.disc.specs.Formats.{bufferBytes, formatOf, blockBytes, runBytes, discBytes, placeOf}
+use Rattle.disc.specs.declared.BlockAddress.{BlockAddress}
+use Rattle.disc.proofs.Truth.{neither, implies}
+use Rattle.state.specs.States.{insertedOf, ejectedOf, passedOf}
+use Rattle.state.specs.Senses.{namedB}
+use Rattle.state.specs.Sound.{onDiscB, endsOnBlockB, openSoundB, soundB}
+use Rattle.state.specs.declared.State.{State}
+use Rattle.state.specs.declared.Transfer.{Transfer}
+use Rattle.state.specs.declared.Transfer.the-variants.{Closed, Answer as AnswerFrom, Read as ReadFrom, Write as WriteTo}
+use Rattle.state.proofs.Keeps.{failed-sound, passed-sound, inserted-sound, ejected-sound}
+use Rattle.packet.specs.Fields.{byteAt, addressOf, lengthOf}
+use Rattle.packet.specs.Rules.{ruleOf}
+use Rattle.packet.specs.Checks.{pastEndB, checksOf, firstOf, verdictOf, verdict}
+use Rattle.packet.specs.declared.Rule.{Rule}
+use Rattle.packet.specs.declared.Known.{Known}
+use Rattle.packet.specs.declared.Known.the-variants.{Unknown, Base}
+use Rattle.packet.specs.declared.Verdict.{Verdict}
+use Rattle.packet.specs.declared.Verdict.the-variants.{Passes, Fails}
+use Rattle.packet.specs.declared.Routine.{Routine}
+use Rattle.packet.specs.declared.Routine.the-variants.{Nothing, Motor, Answer, Read, Write}
+use Rattle.packet.proofs.Passing.{passesB, passing}
+use Rattle.packet.proofs.Table.{opensB, writesB, Guarded, guarded}
+use Rattle.answer.specs.Giving.{giveOf}
+use Rattle.answer.proofs.Lengths.{give-count}
+use Rattle.drive.specs.House.{noneB, firstRefusal, commandTests, insertTests, ejectTests}
+use Rattle.drive.specs.Events.{insertOf, ejectOf}
+use Rattle.drive.specs.Commands.{World, openedOf, spanOf, routineOf, performedOf, obeyedOf, commandHouse, commandOf}
+use Rattle.drive.specs.Theorems.{PowerOnSound, InsertKeeps, EjectKeeps, CommandKeeps}
+use Rattle.drive.proofs.Houses.{let-pass}
+
+pub power-on-sound : PowerOnSound
+unfolding soundB namedB openSoundB
+power-on-sound = refl
+
+pub insert-keeps : InsertKeeps
+unfolding insertOf insertTests
+insert-keeps s number prot disc e = here (noneB (firstRefusal (insertTests s number (length disc)))) refl
+  where
+    here : (b : Bool) → noneB (firstRefusal (insertTests s number (length disc))) ≡ b → soundB (cond b (insertedOf s number prot) s) ≡ true
+    here false q = e
+    here true q =
+        let clear = let-pass (insertTests s number (length disc)) refl q in
+        let (none, above) = neither (eqb number 0) (ltb 4 number) (clear .1 .1 .0) in
+        inserted-sound s number prot (eqb-true (s .disc) 0 (not-false (eqb (s .disc) 0) (clear .1 .0))) (eqb-false number 0 none)
+        (ltb-false 4 number above) e
+
+pub eject-keeps : EjectKeeps
+unfolding ejectOf
+eject-keeps s e = here (noneB (firstRefusal (ejectTests s)))
+  where
+    here : (b : Bool) → soundB (cond b (ejectedOf s) s) ≡ true
+    here false = e
+    here true = ejected-sound s e
+
+-- ---- what a command opens
+
+opened-sound : (number : ℕ) (prot : Bool) (left : ℕ) (t : Transfer) → ((left ≡ 0 → ⊥) → openSoundB number prot t ≡ true)
+    → openSoundB number prot (openedOf left t) ≡ true
+unfolding openSoundB
+opened-sound number prot left t some = here (eqb left 0) refl
+  where
+    here : (b : Bool) → eqb left 0 ≡ b → openSoundB number prot (cond b Closed t) ≡ true
+    here true q = refl
+    here false q = some (eqb-false left 0 q)
+
+module _ (number : ℕ) (is-in : eqb number 0 ≡ false) (from : BlockAddress) (blocks : ℕ) (within : pastEndB number from blocks ≡ false)
+    (some : spanOf number from blocks .left ≡ 0 → ⊥) where
+  on-disc : onDiscB number (spanOf number from blocks) ≡ true
+  unfolding onDiscB spanOf placeOf runBytes discBytes
+  on-disc =
+      let size = blockBytes number in
+      let count = formatOf number .blocks in
+      let end = ltb-false count (from .0 + blocks) (neither (leb count (from .0)) (ltb count (from .0 + blocks)) within .1) in
+      rw (
+        is-in,
+        lt-ltb 0 (blocks * size) (omega (arith, some)),
+        le-leb (from .0 * size + blocks * size) (count * size) (rw (← add-mul (from .0) blocks size) (mul-le-mul-right size end)),
+      )
+
+  on-block : endsOnBlockB number (spanOf number from blocks) ≡ true
+  unfolding endsOnBlockB spanOf placeOf runBytes
+  on-block =
+      let size = blockBytes number in
+      rw (ne-eqb size 0 (λ e. some (rw e (mul-zero blocks))), ← add-mul (from .0) blocks size, mul-mod-left (from .0 + blocks) size)
+
+module _ (s : State) (p buffer : List ℕ) (sound : soundB s ≡ true) (room : length buffer ≤ bufferBytes) where
+  opening : (left : ℕ) (t : Transfer) → ((left ≡ 0 → ⊥) → openSoundB (s .disc) (s .protected) t ≡ true)
+      → soundB (passedOf s (s .motor) (openedOf left t)) ≡ true
+  opening left t some = passed-sound s (s .motor) (openedOf left t) sound (opened-sound (s .disc) (s .protected) left t some)
+
+  routine-sound : (n : ℕ) (r : Routine) → (opensB r && eqb (s .disc) 0) ≡ false → (opensB r && pastEndB (s .disc) (addressOf p) n) ≡ false
+      → (writesB r && s .protected) ≡ false → soundB (routineOf r s p n buffer .state) ≡ true
+  unfolding openSoundB
+  routine-sound n Nothing d g h = passed-sound s (s .motor) Closed sound refl
+  routine-sound n Motor d g h = passed-sound s (eqb (byteAt p 4 % 2) 1) Closed sound refl
+  routine-sound n (Answer a) d g h =
+      let left = giveOf a s (byteAt p 2 / 64) n buffer .count in
+      opening left (AnswerFrom (record { at = 0; left = left }))
+      (λ some.
+      rw (
+        lt-ltb 0 left (omega (arith, some)),
+        le-leb (0 + left) bufferBytes (omega (arith, give-count a s (byteAt p 2 / 64) n buffer)),
+      ))
+  routine-sound n Read d g h =
+      let span = spanOf (s .disc) (addressOf p) n in
+      opening (span .left) (ReadFrom span) (λ some. on-disc (s .disc) d (addressOf p) n g some)
+  routine-sound n Write d g h =
+      let span = spanOf (s .disc) (addressOf p) n in
+      opening (span .left) (WriteTo span)
+      (λ some. rw (on-disc (s .disc) d (addressOf p) n g some, on-block (s .disc) d (addressOf p) n g some, h))
+
+  performed-sound : (code : ℕ) (rule : Rule) → ruleOf code ≡ Base rule → passesB (firstOf (checksOf s rule p) rule) ≡ true
+      → soundB (performedOf s rule p buffer .state) ≡ true
+  unfolding performedOf checksOf
+  performed-sound code rule known passes =
+      let holds = passing s rule p passes .0 in
+      let guard = guarded code rule known in
+      let r = rule .routine in
+      let n = lengthOf (rule .length) p in
+      routine-sound n r
+      (implies (opensB r) (rule .asked .disc) (eqb (s .disc) 0) (guard .disc) (holds .1 .1 .1 .0))
+      (implies (opensB r) (rule .asked .range) (pastEndB (s .disc) (addressOf p) n) (guard .range) (holds .1 .1 .1 .1 .1 .1 .1 .0))
+      (implies (writesB r) (rule .asked .unprotected) (s .protected) (guard .unprotected) (holds .1 .1 .1 .1 .1 .1 .1 .1 .0))
+
+obeyed-sound : (w : World) (p : List ℕ) → soundB (w .state) ≡ true → length (w .buffer) ≤ bufferBytes → (k : Known) → ruleOf (byteAt p 0) ≡ k
+    → (v : Verdict) → verdictOf k (w .state) p ≡ v → soundB (obeyedOf v w p .world .state) ≡ true
+obeyed-sound w p sound room k known (Fails f) e = failed-sound (w .state) f sound
+obeyed-sound w p sound room Unknown known (Passes rule) e = absurd (let z : _≡_ {A = ℕ} 0 1 = cc in omega arith)
+obeyed-sound w p sound room (Base own) known (Passes rule) e =
+    let same : own ≡ rule = let q = passing (w .state) own p (ap passesB e) .1 in cc in
+    rw same at (performed-sound (w .state) p (w .buffer) sound room (byteAt p 0) own known (ap passesB e))
+
+pub command-keeps : CommandKeeps
+unfolding commandOf commandTests verdict
+command-keeps w p sound = here (noneB (commandHouse w p)) refl
+  where
+    here : (b : Bool) → noneB (commandHouse w p) ≡ b
+        → soundB (cond b (obeyedOf (verdict (w .state) p) w p) (record { house = commandHouse w p; passed = false; world = w }) .world .state) ≡ true
+    here false q = sound
+    here true q =
+        let clear = let-pass (commandTests (w .state) (length p) (length (w .buffer)) (length (w .disc))) refl q in
+        let room = eqb-true (length (w .buffer)) bufferBytes (not-false (eqb (length (w .buffer)) bufferBytes) (clear .1 .1 .0)) in
+        obeyed-sound w p sound (omega arith) (ruleOf (byteAt p 0)) refl (verdict (w .state) p) refl

@@ -1,0 +1,228 @@
+-- While a change is pending, the second command that C is asked of reports it at the latest. Assumes nothing.
+use mathlib.Core.Path.{_≡_, refl, sym, _∙_, ap}
+use mathlib.Core.Bool.{Bool, true, false, cond, not, _&&_, _||_, or-true, and-true, true≢false, false≢true}
+use mathlib.Core.List.{List, [], _∷_}
+use Prim.Native.Nat.{ℕ, suc, _/_, _≤_}
+use native.Mathlib.Omega.{arith}
+use borrow.Author.Tests.{eq-eqb, eqb-true, not-true, not-false}
+use lib.Dec.{eqb, lit≤}
+use lib.ListN.{length}
+use Rattle.disc.specs.Formats.{bufferBytes, discBytes}
+use Rattle.disc.proofs.Truth.{both}
+use Rattle.state.specs.First.{first}
+use Rattle.state.specs.States.{failedOf, passedOf}
+use Rattle.state.specs.declared.State.{State}
+use Rattle.state.specs.declared.Attention.the-variants.{PowerOn, Change}
+use Rattle.state.specs.declared.Failure.{Failure}
+use Rattle.state.specs.declared.Failure.the-variants.{Pending, Found}
+use Rattle.state.specs.declared.Transfer.{Transfer}
+use Rattle.packet.specs.Fields.{byteAt, lengthOf}
+use Rattle.packet.specs.Rules.{ruleOf}
+use Rattle.packet.specs.Checks.{unitB, failsB, failing, firstOf, checksOf, verdictOf, verdict}
+use Rattle.packet.specs.declared.Check.{Check}
+use Rattle.packet.specs.declared.Rule.{Rule}
+use Rattle.packet.specs.declared.Known.{Known}
+use Rattle.packet.specs.declared.Known.the-variants.{Unknown, Base}
+use Rattle.packet.specs.declared.Verdict.{Verdict}
+use Rattle.packet.specs.declared.Verdict.the-variants.{Passes, Fails}
+use Rattle.packet.specs.declared.Routine.{Routine}
+use Rattle.packet.specs.declared.Routine.the-variants.{Nothing, Motor, Answer, Read, Write}
+use Rattle.packet.proofs.Table.{freeB, attended}
+use Rattle.answer.specs.Giving.{giveOf}
+use Rattle.answer.proofs.Lengths.{give-length}
+use Rattle.drive.specs.House.{noneB, commandTests}
+use Rattle.drive.specs.Commands.{World, world, routineOf, performedOf, obeyedOf, commandHouse, commandOf}
+use Rattle.drive.specs.Theorems.{Ready, baseB, attendedB, count, reportsB, someReportsB, SecondAtLatest}
+use Rattle.drive.proofs.Houses.{let-pass}
+use Rattle.drive.proofs.Keeps.{command-keeps}
+
+abbrev attentionB : Failure → Bool
+attentionB (Pending a) = true
+attentionB (Found f) = false
+
+abbrev pendingB : Verdict → Bool
+pendingB (Fails f) = attentionB f
+pendingB (Passes rule) = false
+
+-- ---- what a command keeps
+
+-- the disc's number, and the lengths of what is lent
+record Lent (w v : World) : Type 0 where
+  number : v .state .disc ≡ w .state .disc
+  buffer : length (v .buffer) ≡ length (w .buffer)
+  disc : v .disc ≡ w .disc
+
+record Flags (w v : World) : Type 0 where
+  power : v .state .«power_on» ≡ w .state .«power_on»
+  change : v .state .change ≡ w .state .change
+
+module _ (w : World) (p : List ℕ) where
+  by-passing : (motor : Bool) (t : Transfer) (b : List ℕ) → length b ≡ length (w .buffer)
+      → Lent w (world (passedOf (w .state) motor t) b (w .disc)) × Flags w (world (passedOf (w .state) motor t) b (w .disc))
+  unfolding passedOf
+  by-passing motor t b e = (record { number = refl; buffer = e; disc = refl }, record { power = refl; change = refl })
+
+  routine-keeps : (n : ℕ) (r : Routine)
+      → let a = routineOf r (w .state) p n (w .buffer) in
+      Lent w (world (a .state) (a .buffer) (w .disc)) × Flags w (world (a .state) (a .buffer) (w .disc))
+  routine-keeps n Nothing = by-passing _ _ _ refl
+  routine-keeps n Motor = by-passing _ _ _ refl
+  routine-keeps n (Answer a) = by-passing _ _ _ (give-length a (w .state) (byteAt p 2 / 64) n (w .buffer))
+  routine-keeps n Read = by-passing _ _ _ refl
+  routine-keeps n Write = by-passing _ _ _ refl
+
+  obeyed-lent : (v : Verdict) → Lent w (obeyedOf v w p .world)
+  unfolding failedOf performedOf
+  obeyed-lent (Fails f) = record { number = refl; buffer = refl; disc = refl }
+  obeyed-lent (Passes rule) = routine-keeps (lengthOf (rule .length) p) (rule .routine) .0
+
+  obeyed-flags : (v : Verdict) → pendingB v ≡ false → Flags w (obeyedOf v w p .world)
+  unfolding failedOf performedOf
+  obeyed-flags (Fails (Pending a)) e = absurd (true≢false e)
+  obeyed-flags (Fails (Found f)) e = record { power = and-true (w .state .«power_on»); change = and-true (w .state .change) }
+  obeyed-flags (Passes rule) e = routine-keeps (lengthOf (rule .length) p) (rule .routine) .1
+
+pub ready-next : (w : World) (p : List ℕ) → Ready w → Ready (commandOf w p .world)
+unfolding commandOf
+ready-next w p r = here (noneB (commandHouse w p)) refl
+  where
+    here : (b : Bool) → noneB (commandHouse w p) ≡ b → Ready (commandOf w p .world)
+    here false q = rw q r
+    here true q =
+        let kept = obeyed-lent w p (verdict (w .state) p) in
+        record {
+          sound = command-keeps w p (r .sound);
+          buffer = rw q (kept .buffer ∙ r .buffer);
+          disc = rw (q, kept .disc, kept .number) (r .disc);
+        }
+
+-- ---- which verdicts are a pending attention
+
+-- no check that fails is a pending attention
+abbrev calmB : List Check → Bool
+calmB [] = true
+calmB (c ∷ cs) = not (attentionB (c .1) && c .0) && calmB cs
+
+calm : (cs : List Check) (rule : Rule) → calmB cs ≡ true → pendingB (firstOf cs rule) ≡ false
+calm [] rule e = refl
+calm (c ∷ cs) rule e =
+    let (one, more) = both (not (attentionB (c .1) && c .0)) (calmB cs) e in
+    here (c .0) one (calm cs rule more)
+  where
+    here : (f : Bool) → not (attentionB (c .1) && f) ≡ true → pendingB (firstOf cs rule) ≡ false
+        → pendingB (cond f (Fails (c .1)) (firstOf cs rule)) ≡ false
+    here false one more = more
+    here true one more = sym (and-true (attentionB (c .1))) ∙ not-true (attentionB (c .1) && true) one
+
+module _ (s : State) (p : List ℕ) (rule : Rule) (known : ruleOf (byteAt p 0) ≡ Base rule) where
+  other-unit : unitB p ≡ true → pendingB (verdict s p) ≡ false
+  unfolding verdict checksOf
+  other-unit e = rw (known, e)
+
+  unasked : freeB (byteAt p 0) ≡ true → pendingB (verdict s p) ≡ false
+  unfolding verdict checksOf
+  unasked free =
+      rw known (calm (checksOf s rule p) rule (rw (attended (byteAt p 0) rule known, free)))
+
+  module _ (unit : unitB p ≡ false) (free : freeB (byteAt p 0) ≡ false) where
+    power-first : s .«power_on» ≡ true → verdict s p ≡ Fails (Pending PowerOn)
+    unfolding verdict checksOf
+    power-first on = rw (known, unit, attended (byteAt p 0) rule known, free, on)
+
+    change-first : s .«power_on» ≡ false → s .change ≡ true → verdict s p ≡ Fails (Pending Change)
+    unfolding verdict checksOf
+    change-first off on = rw (known, unit, attended (byteAt p 0) rule known, free, off, on)
+
+-- ---- the run
+
+-- a packet of 12 bytes is let pass where the world is ready
+let-in : (w : World) (p : List ℕ) → Ready w → length p ≡ 12 → commandOf w p ≡ obeyedOf (verdict (w .state) p) w p
+unfolding commandOf commandTests
+let-in w p r long = rw (long, r .sound, r .buffer, r .disc, eq-eqb (discBytes (w .state .disc)) (discBytes (w .state .disc)) refl)
+
+-- a packet that C is asked of
+record Asked (p : List ℕ) : Type 0 where
+  long : length p ≡ 12
+  rule : Rule
+  known : ruleOf (byteAt p 0) ≡ Base rule
+  unit : unitB p ≡ false
+  free : freeB (byteAt p 0) ≡ false
+
+asked : (p : List ℕ) → attendedB p ≡ true → Asked p
+asked p e =
+    let long = eqb (length p) 12 in
+    let base = baseB (ruleOf (byteAt p 0)) in
+    let (lbu, free) = both (long && base && not (unitB p)) (not (freeB (byteAt p 0))) e in
+    let (lb, unit) = both (long && base) (not (unitB p)) lbu in
+    let (l, b) = both long base lb in
+    here (ruleOf (byteAt p 0)) refl b (eqb-true (length p) 12 l) (not-true (unitB p) unit) (not-true (freeB (byteAt p 0)) free)
+  where
+    here : (k : Known) → ruleOf (byteAt p 0) ≡ k → baseB k ≡ true → length p ≡ 12 → unitB p ≡ false → freeB (byteAt p 0) ≡ false → Asked p
+    here Unknown q b l u f = absurd (false≢true b)
+    here (Base rule) q b l u f = record { long = l; rule = rule; known = q; unit = u; free = f }
+
+-- any other packet reports no attention
+other : (s : State) (p : List ℕ) → length p ≡ 12 → attendedB p ≡ false → pendingB (verdict s p) ≡ false
+unfolding verdict
+other s p long e = here (ruleOf (byteAt p 0)) refl (unitB p) refl (freeB (byteAt p 0)) refl
+  where
+    here : (k : Known) → ruleOf (byteAt p 0) ≡ k → (u : Bool) → unitB p ≡ u → (f : Bool) → freeB (byteAt p 0) ≡ f
+        → pendingB (verdict s p) ≡ false
+    here Unknown q u v f g = rw q
+    here (Base rule) q true v f g = other-unit s p rule q v
+    here (Base rule) q false v true g = unasked s p rule q g
+    here (Base rule) q false v false g = absurd (true≢false (sym (rw (long, q, v, g) refl) ∙ e))
+
+-- how many commands that C is asked of it takes at the most
+abbrev needed : State → ℕ
+needed s = cond (s .«power_on») 2 1
+
+one-or-two : (b : Bool) → (1 ≤ cond b 2 1) × (cond b 2 1 ≤ 2)
+one-or-two true = (lit≤ tt, lit≤ tt)
+one-or-two false = (lit≤ tt, lit≤ tt)
+
+module _ (p : List ℕ) (ps : List (List ℕ))
+    (more : (v : World) → Ready v → v .state .change ≡ true → needed (v .state) ≤ count ps → someReportsB v ps ≡ true) (w : World) (r : Ready w)
+    (on : w .state .change ≡ true) where
+  -- the rest of the run reports it
+  later : commandOf w p .world .state .change ≡ true → needed (commandOf w p .world .state) ≤ count ps → someReportsB w (p ∷ ps) ≡ true
+  later change few = rw (more (commandOf w p .world) (ready-next w p r) change few) (or-true (reportsB (commandOf w p)))
+
+  at-asked : Asked p → needed (w .state) ≤ suc (count ps) → someReportsB w (p ∷ ps) ≡ true
+  unfolding failedOf
+  at-asked a h = here (w .state .«power_on») refl
+    where
+      answers : (f : Failure) → verdict (w .state) p ≡ Fails f → commandOf w p ≡ obeyedOf (Fails f) w p
+      answers f e = let-in w p r (a .long) ∙ ap (λ (v : Verdict). obeyedOf v w p) e
+
+      here : (b : Bool) → w .state .«power_on» ≡ b → someReportsB w (p ∷ ps) ≡ true
+      here true q =
+          let power = answers (Pending PowerOn) (power-first (w .state) p (a .rule) (a .known) (a .unit) (a .free) q) in
+          let two = rw q at h in
+          later (rw (power, on)) (rw (power, q) (omega arith))
+      here false q = rw (answers (Pending Change) (change-first (w .state) p (a .rule) (a .known) (a .unit) (a .free) q on))
+
+  at-other : attendedB p ≡ false → needed (w .state) ≤ count ps → someReportsB w (p ∷ ps) ≡ true
+  unfolding commandOf commandTests
+  at-other e h = here (noneB (commandHouse w p)) refl
+    where
+      here : (b : Bool) → noneB (commandHouse w p) ≡ b → someReportsB w (p ∷ ps) ≡ true
+      here false q = later (rw q on) (rw q h)
+      here true q =
+          let clear = let-pass (commandTests (w .state) (length p) (length (w .buffer)) (length (w .disc))) refl q in
+          let long = eqb-true (length p) 12 (not-false (eqb (length p) 12) (clear .0)) in
+          let flags = obeyed-flags w p (verdict (w .state) p) (other (w .state) p long e) in
+          later (rw q (flags .change ∙ on)) (rw (q, flags .power) h)
+
+at-latest : (ps : List (List ℕ)) (w : World) → Ready w → w .state .change ≡ true → needed (w .state) ≤ count ps → someReportsB w ps ≡ true
+at-latest [] w r on h = absurd (omega (arith, one-or-two (w .state .«power_on») .0))
+at-latest (p ∷ ps) w r on h = here (attendedB p) refl (λ v s o n. at-latest ps v s o n)
+  where
+    here : (b : Bool) → attendedB p ≡ b
+        → ((v : World) → Ready v → v .state .change ≡ true → needed (v .state) ≤ count ps → someReportsB v ps ≡ true)
+        → someReportsB w (p ∷ ps) ≡ true
+    here true q more = at-asked p ps more w r on (asked p q) (rw q at h)
+    here false q more = at-other p ps more w r on q (rw q at h)
+
+pub second-at-latest : SecondAtLatest
+second-at-latest w ps r on h = at-latest ps w r on (omega (arith, one-or-two (w .state .«power_on») .1))

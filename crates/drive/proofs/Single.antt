@@ -1,0 +1,54 @@
+-- Two replies that an entry's promise allows are equal. Assumes nothing.
+use mathlib.Core.Path.{_≡_, refl, sym, _∙_, ap}
+use mathlib.Core.List.{List, [], _∷_}
+use Prim.Native.Nat.{ℕ}
+use lib.ListN.{getD}
+use Rattle.drive.specs.declared.House.{House}
+use Rattle.drive.specs.declared.House.the-variants.{Accepted, PacketLength, Unsound, BufferLength, DiscLength, DiscIn, NoDiscIn, NoSuchDisc}
+use Rattle.drive.specs.declared.EventReply.{EventReply}
+use Rattle.drive.specs.declared.CommandReply.{CommandReply}
+use Rattle.drive.specs.House.{numberOf}
+use Rattle.drive.specs.Events.{Happened, happened}
+use Rattle.drive.specs.Commands.{Commanded, commanded}
+use Rattle.drive.specs.Theorems.{OnePowerOn, OneInsertion, OneEjection, OneCommand}
+
+-- the houses by number
+abbrev houses : List House
+houses = Accepted ∷ PacketLength ∷ Unsound ∷ BufferLength ∷ DiscLength ∷ DiscIn ∷ NoDiscIn ∷ NoSuchDisc ∷ []
+
+by-number : (h : House) → getD houses (numberOf h) Accepted ≡ h
+by-number Accepted = refl
+by-number PacketLength = refl
+by-number Unsound = refl
+by-number BufferLength = refl
+by-number DiscLength = refl
+by-number DiscIn = refl
+by-number NoDiscIn = refl
+by-number NoSuchDisc = refl
+
+-- a number is that of one house
+pub one-house : (h g : House) → numberOf h ≡ numberOf g → h ≡ g
+one-house h g e = sym (by-number h) ∙ ap (λ (n : ℕ). getD houses n Accepted) e ∙ by-number g
+
+one-event : (r q : EventReply) → happened r ≡ happened q → r ≡ q
+one-event r q e =
+    let house = one-house (r .house) (q .house) (ap (λ (h : Happened). h .house) e) in
+    let state = ap (λ (h : Happened). h .state) e in
+    λ i. record { house = house i; state = state i }
+
+pub one-power-on : OnePowerOn
+one-power-on r q e f = e ∙ sym f
+
+pub one-insertion : OneInsertion
+one-insertion s number prot disc r q e f = one-event r q (e ∙ sym f)
+
+pub one-ejection : OneEjection
+one-ejection s r q e f = one-event r q (e ∙ sym f)
+
+pub one-command : OneCommand
+one-command w p r q b c e f =
+    let same = e ∙ sym f in
+    let house = one-house (r .house) (q .house) (ap (λ (h : Commanded). h .house) same) in
+    let passed = ap (λ (h : Commanded). h .passed) same in
+    let state = ap (λ (h : Commanded). h .world .state) same in
+    (λ i. record { house = house i; passed = passed i; state = state i }, ap (λ (h : Commanded). h .world .buffer) same)
