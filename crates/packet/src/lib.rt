@@ -158,6 +158,24 @@ pub enum Verdict {
 // Whether a check fails, and the failure that it then is.
 pub struct Check(pub bool, pub Failure);
 
+const UNKNOWN_CODE: Failure = Failure::Found(Fault::UnknownCode);
+
+const OTHER_UNIT: Failure = Failure::Found(Fault::OtherUnit);
+
+const POWER_ON: Failure = Failure::Pending(Attention::PowerOn);
+
+const CHANGE: Failure = Failure::Pending(Attention::Change);
+
+const NO_DISC: Failure = Failure::Found(Fault::NoDisc);
+
+const BAD_FIELD: Failure = Failure::Found(Fault::BadField);
+
+const NOT_SAVED: Failure = Failure::Found(Fault::NotSaved);
+
+const OUT_OF_RANGE: Failure = Failure::Found(Fault::OutOfRange);
+
+const PROTECTED: Failure = Failure::Found(Fault::Protected);
+
 // The byte at `i`, 0 past the end.
 pub fn byte(packet: &[u8], i: usize) -> u8
     ensures { λ r. ⌜ r ≡ byteAt (now (packet .entry)) i ⌝ }
@@ -325,33 +343,18 @@ fn checked(state: State, rule: Rule, packet: &[u8]) -> Verdict
     let asked = rule.asked;
     let values = rule.values;
     let field = rule.length;
-    let count = length(field, packet);
+    let past = past_end(state.disc, address(packet), length(field, packet));
     first_failure(
         [
-            Check(other_unit(packet), Failure::Found(Fault::OtherUnit)),
-            Check(
-                asked.attention & state.power_on,
-                Failure::Pending(Attention::PowerOn),
-            ),
-            Check(
-                asked.attention & state.change,
-                Failure::Pending(Attention::Change),
-            ),
-            Check(
-                asked.disc & (state.disc == 0),
-                Failure::Found(Fault::NoDisc),
-            ),
-            Check(!in_mask(packet, rule.row), Failure::Found(Fault::BadField)),
-            Check(bad_value(values, packet), Failure::Found(Fault::BadField)),
-            Check(bad_control(values, packet), Failure::Found(Fault::NotSaved)),
-            Check(
-                asked.range & past_end(state.disc, address(packet), count),
-                Failure::Found(Fault::OutOfRange),
-            ),
-            Check(
-                asked.unprotected & state.protected,
-                Failure::Found(Fault::Protected),
-            ),
+            Check(other_unit(packet), OTHER_UNIT),
+            Check(asked.attention & state.power_on, POWER_ON),
+            Check(asked.attention & state.change, CHANGE),
+            Check(asked.disc & (state.disc == 0), NO_DISC),
+            Check(!in_mask(packet, rule.row), BAD_FIELD),
+            Check(bad_value(values, packet), BAD_FIELD),
+            Check(bad_control(values, packet), NOT_SAVED),
+            Check(asked.range & past, OUT_OF_RANGE),
+            Check(asked.unprotected & state.protected, PROTECTED),
         ],
         rule,
     )
@@ -363,7 +366,7 @@ pub fn judge(state: State, packet: &[u8]) -> Verdict
 {
     let known = rule_of(byte(packet, 0));
     match known {
-        Known::Unknown => Verdict::Fails(Failure::Found(Fault::UnknownCode)),
+        Known::Unknown => Verdict::Fails(UNKNOWN_CODE),
         Known::Base(rule) => checked(state, rule, packet),
     }
 }

@@ -5,21 +5,20 @@ use Rattle.packet.proofs.checked.Tie as tie
 returns : tie.Need-returns
 unfolding checksOf
 returns c =
-    let end = c .before .before .before .before in
-    let address = end .before in
-    let control = address .before in
+    let control = c .before .before .before .before in
     let value = control .before in
     let mask = value .before in
     let unit = mask .before .before .before .before .before .before .before in
+    let past = unit .before in
     rw (
       c .first-failure .ensures,
-      end .past-end .ensures,
-      address .address .ensures,
       control .bad-control .ensures,
       value .bad-value .ensures,
       mask .in-mask .ensures,
       unit .other-unit .ensures,
-      unit .before .length .ensures,
+      past .past-end .ensures,
+      past .before .length .ensures,
+      past .before .before .address .ensures,
     )
 
 pub checked-spec : {M : Type 1} → statement M
