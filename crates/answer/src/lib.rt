@@ -157,10 +157,7 @@ pub fn give(
     ensures { λ r. ⌜ filled r (now (buffer .exit)) ≡ giveOf answering state control allocation (now (buffer .entry)) ⌝ }
 {
     match answering {
-        Answering::Sense => {
-            let sense = state.sense;
-            put(&sense_data(sense), allocation, buffer)
-        }
+        Answering::Sense => put(&sense_data(state.sense), allocation, buffer),
         Answering::Inquiry => put(&inquiry_data(), allocation, buffer),
         Answering::Capacities => put_capacities(state.disc, allocation, buffer),
         Answering::Capacity => put(&capacity_data(state.disc), 8, buffer),

@@ -34,7 +34,8 @@ use Rattle.answer.specs.Giving.{giveOf}
 use Rattle.answer.proofs.Lengths.{give-count}
 use Rattle.drive.specs.House.{noneB, firstRefusal, commandTests, insertTests, ejectTests}
 use Rattle.drive.specs.Events.{insertOf, ejectOf}
-use Rattle.drive.specs.Commands.{World, openedOf, spanOf, routineOf, performedOf, obeyedOf, commandHouse, commandOf}
+use Rattle.drive.specs.World.{World}
+use Rattle.drive.specs.Commands.{openedOf, spanOf, routineOf, performedOf, obeyedOf, commandHouse, commandOf}
 use Rattle.drive.specs.Theorems.{PowerOnSound, InsertKeeps, EjectKeeps, CommandKeeps}
 use Rattle.drive.proofs.Houses.{let-pass}
 

@@ -31,7 +31,8 @@ use Rattle.packet.proofs.Table.{freeB, attended}
 use Rattle.answer.specs.Giving.{giveOf}
 use Rattle.answer.proofs.Lengths.{give-length}
 use Rattle.drive.specs.House.{noneB, commandTests}
-use Rattle.drive.specs.Commands.{World, world, routineOf, performedOf, obeyedOf, commandHouse, commandOf}
+use Rattle.drive.specs.World.{World, world}
+use Rattle.drive.specs.Commands.{routineOf, performedOf, obeyedOf, commandHouse, commandOf}
 use Rattle.drive.specs.Theorems.{Ready, baseB, attendedB, count, reportsB, someReportsB, SecondAtLatest}
 use Rattle.drive.proofs.Houses.{let-pass}
 use Rattle.drive.proofs.Keeps.{command-keeps}

@@ -10,23 +10,23 @@ use Rattle.state.specs.declared.State.{State}
 use Rattle.state.specs.declared.Transfer.{Transfer}
 use Rattle.state.specs.declared.Transfer.the-variants.{Closed, Answer, Read}
 use Rattle.state.specs.Senses.{triple, noSense}
-use Rattle.state.specs.States.{stateOf}
+use Rattle.state.specs.States.{stateOf, withTransfer}
 use Rattle.answer.specs.Bytes.{be2, be4}
-use Rattle.drive.specs.Commands.{world, commandOf}
+use Rattle.drive.specs.World.{world}
+use Rattle.drive.specs.Commands.{commandOf}
 
--- "Disc 3, no flags, unless said": protection, change flag, sense, transfer
-abbrev disc3 : Bool → Bool → Sense → Transfer → State
-disc3 prot change sense transfer = stateOf 3 prot false false change sense transfer
-
--- plain; protected; with a change pending
+-- "Disc 3, no flags, unless said"
 abbrev plain : State
-plain = disc3 false false noSense Closed
+plain = stateOf 3 false false false false noSense Closed
 
 abbrev prot : State
-prot = disc3 true false noSense Closed
+prot = stateOf 3 true false false false noSense Closed
 
 abbrev pending : State
-pending = disc3 false true noSense Closed
+pending = stateOf 3 false false false true noSense Closed
+
+abbrev afterFailure : State
+afterFailure = stateOf 3 false false false false (triple 0x05 0x21 0x00) Closed
 
 -- packets: code, address and length at bytes 7-8; at bytes 6-9; code, byte 2 and byte 4
 abbrev ten : ℕ → ℕ → ℕ → List ℕ
@@ -42,52 +42,55 @@ six code two four = code ∷ 0 ∷ two ∷ 0 ∷ four ∷ replicate 7 0
 pub record Case : Type 0 where
   pub before : State
   pub packet : List ℕ
-  pub passes : Bool
+  pub passed : Bool
   pub after : State
 
-infix 20 _gets_passing_
-abbrev _gets_passing_ : State → List ℕ → State → Case
-before gets packet passing after = record { before = before; packet = packet; passes = true; after = after }
+-- the state after is the one before but for sense and transfer, so flags are kept
+infix 20 _gets_passes_
+abbrev _gets_passes_ : State → List ℕ → Transfer → Case
+before gets packet passes transfer =
+    record { before = before; packet = packet; passed = true; after = withTransfer before noSense transfer }
 
-infix 20 _gets_failing_
-abbrev _gets_failing_ : State → List ℕ → State → Case
-before gets packet failing after = record { before = before; packet = packet; passes = false; after = after }
+infix 20 _gets_fails_
+abbrev _gets_fails_ : State → List ℕ → Sense → Case
+before gets packet fails sense =
+    record { before = before; packet = packet; passed = false; after = withTransfer before sense Closed }
 
 abbrev lastBlock : Transfer
 lastBlock = Read (record { at = record { 0 = 2879 * 512 }; left = 512 })
 
-abbrev whole : ℕ → Transfer
-whole size = Answer (record { at = 0; left = size })
+abbrev answer : ℕ → Transfer
+answer size = Answer (record { at = 0; left = size })
 
 abbrev pub cases : List Case
 cases =
-    (plain gets ten 0x28 2879 1 passing disc3 false false noSense lastBlock)
-    ∷ (plain gets ten 0x28 2879 2 failing disc3 false false (triple 0x05 0x21 0x00) Closed)
-    ∷ (plain gets ten 0x28 2879 0 passing plain)
-    ∷ (plain gets ten 0x28 2880 0 failing disc3 false false (triple 0x05 0x21 0x00) Closed)
-    ∷ (plain gets twelve 0xa8 0xffffffff 2 failing disc3 false false (triple 0x05 0x21 0x00) Closed)
-    ∷ (prot gets ten 0x2a 2880 1 failing disc3 true false (triple 0x05 0x21 0x00) Closed)
-    ∷ (prot gets ten 0x2a 0 0 failing disc3 true false (triple 0x07 0x27 0x00) Closed)
-    ∷ (pending gets six 0x55 0 0 failing disc3 false true (triple 0x05 0x20 0x00) Closed)
-    ∷ (pending gets six 0x12 0 36 passing disc3 false true noSense (whole 36))
-    ∷ (plain gets six 0x5a 0xff 0 failing disc3 false false (triple 0x05 0x39 0x00) Closed)
-    ∷ (disc3 false false (triple 0x05 0x21 0x00) Closed gets six 0x03 0 0 passing plain)
+    (plain gets ten 0x28 2879 1 passes lastBlock)
+    ∷ (plain gets ten 0x28 2879 2 fails triple 0x05 0x21 0x00)
+    ∷ (plain gets ten 0x28 2879 0 passes Closed)
+    ∷ (plain gets ten 0x28 2880 0 fails triple 0x05 0x21 0x00)
+    ∷ (plain gets twelve 0xa8 0xffffffff 2 fails triple 0x05 0x21 0x00)
+    ∷ (prot gets ten 0x2a 2880 1 fails triple 0x05 0x21 0x00)
+    ∷ (prot gets ten 0x2a 0 0 fails triple 0x07 0x27 0x00)
+    ∷ (pending gets six 0x55 0 0 fails triple 0x05 0x20 0x00)
+    ∷ (pending gets six 0x12 0 36 passes answer 36)
+    ∷ (plain gets six 0x5a 0xff 0 fails triple 0x05 0x39 0x00)
+    ∷ (afterFailure gets six 0x03 0 0 passes Closed)
     ∷ []
 
 -- what is heard and remembered: the house number, whether it passed, the state
 pub record Outcome : Type 0 where
   pub house : ℕ
-  pub passes : Bool
+  pub passed : Bool
   pub state : State
 
 abbrev outcome : List ℕ → List ℕ → Case → Outcome
 outcome buffer disc c =
     let r = commandOf (world (c .before) buffer disc) (c .packet) in
-    record { house = r .house; passes = r .passed; state = r .world .state }
+    record { house = r .house; passed = r .passed; state = r .world .state }
 
 -- no house test refuses
 abbrev expected : Case → Outcome
-expected c = record { house = 0; passes = c .passes; state = c .after }
+expected c = record { house = 0; passed = c .passed; state = c .after }
 
 -- over any block buffer and any disc 3
 abbrev pub Starred : Type 0

@@ -20,6 +20,7 @@ use Rattle.packet.specs.declared.Routine.{Routine}
 use Rattle.packet.specs.declared.Routine.the-variants.{Nothing, Motor, Answer, Read, Write}
 use Rattle.answer.specs.Giving.{Filled, giveOf}
 use Rattle.drive.specs.declared.CommandReply.{CommandReply}
+use Rattle.drive.specs.World.{World, world}
 use Rattle.drive.specs.House.{numberOf, firstRefusal, commandTests}
 
 -- "with 0 bytes it stays closed", "length 0 passes and stays closed"
@@ -57,15 +58,6 @@ routineOf Write s p n buffer =
 
 unfoldable pub performedOf : State → Rule → List ℕ → List ℕ → After
 performedOf s rule p buffer = routineOf (rule .routine) s p (lengthOf (rule .length) p) buffer
-
--- all that a call can change
-pub record World : Type 0 where
-  pub state : State
-  pub buffer : List ℕ
-  pub disc : List ℕ
-
-abbrev pub world : State → List ℕ → List ℕ → World
-world state buffer disc = record { state = state; buffer = buffer; disc = disc }
 
 -- the paper's house number, whether the command passed, and the world after
 pub record Commanded : Type 0 where

@@ -1,3 +1,4 @@
+pub mod World
 pub mod House
 pub mod Events
 pub mod Commands

@@ -20,7 +20,8 @@ use Rattle.packet.specs.declared.Known.the-variants.{Unknown, Base}
 use Rattle.drive.specs.declared.EventReply.{EventReply}
 use Rattle.drive.specs.declared.CommandReply.{CommandReply}
 use Rattle.drive.specs.Events.{happened, insertOf, ejectOf}
-use Rattle.drive.specs.Commands.{World, Commanded, commanded, commandOf}
+use Rattle.drive.specs.World.{World}
+use Rattle.drive.specs.Commands.{Commanded, commanded, commandOf}
 
 -- ---- "Every call keeps soundness."
 

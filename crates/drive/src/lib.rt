@@ -3,7 +3,8 @@ ghost use mathlib.Core.Path.{_≡_};
 ghost use Rattle.state.specs.States.{powerOn};
 ghost use Rattle.drive.specs.House.{numberOf, firstNumber, firstRefusal, commandTests, insertTests, ejectTests};
 ghost use Rattle.drive.specs.Events.{happened, insertOf, ejectOf};
-ghost use Rattle.drive.specs.Commands.{openedOf, spanOf, after, performedOf, world, commanded, commandOf};
+ghost use Rattle.drive.specs.World.{world};
+ghost use Rattle.drive.specs.Commands.{openedOf, spanOf, after, performedOf, commanded, commandOf};
 use disc::BlockAddress;
 use packet::Routine;
 use packet::Rule;
@@ -172,6 +173,7 @@ fn performed(state: State, rule: Rule, packet: &[u8], buffer: &mut [u8]) -> Stat
     let field = rule.length;
     let routine = rule.routine;
     let length = packet::length(field, packet);
+    let p = span(state.disc, packet::address(packet), length);
     match routine {
         Routine::Nothing => state::passed(state, state.motor, Transfer::Closed),
         Routine::Motor => state::passed(state, packet::byte(packet, 4) % 2 == 1, Transfer::Closed),
@@ -181,14 +183,8 @@ fn performed(state: State, rule: Rule, packet: &[u8], buffer: &mut [u8]) -> Stat
             let transfer = opened(left, Transfer::Answer(AnswerAt { at: 0, left: left }));
             state::passed(state, state.motor, transfer)
         }
-        Routine::Read => {
-            let p = span(state.disc, packet::address(packet), length);
-            state::passed(state, state.motor, opened(p.left, Transfer::Read(p)))
-        }
-        Routine::Write => {
-            let p = span(state.disc, packet::address(packet), length);
-            state::passed(state, state.motor, opened(p.left, Transfer::Write(p)))
-        }
+        Routine::Read => state::passed(state, state.motor, opened(p.left, Transfer::Read(p))),
+        Routine::Write => state::passed(state, state.motor, opened(p.left, Transfer::Write(p))),
     }
 }
 

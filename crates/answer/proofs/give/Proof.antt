@@ -7,7 +7,7 @@ returns : tie.Need-returns
 unfolding giveOf answerOf allocationOf
 returns c =
     let answer = c .before .before .before .before .before in
-    rw (answer .before .before .enum-told .given .1, ← answer .sense-data .ensures) (c .before .before .put .ensures)
+    rw (answer .before .enum-told .given .1, ← answer .sense-data .ensures) (c .before .before .put .ensures)
 
 returns-2 : tie.Need-returns-2
 unfolding giveOf answerOf allocationOf

@@ -2,7 +2,8 @@ use mathlib.Core.Path.{_≡_, ap}
 use mathlib.Core.Bool.{true}
 use borrow.Author.Needs.{needs}
 use borrow.Author.Tests.{eq-eqb, ne-eqb}
-use Rattle.drive.specs.Commands.{After, accepted, World, world, obeyedOf, commandOf}
+use Rattle.drive.specs.World.{World, world}
+use Rattle.drive.specs.Commands.{After, accepted, obeyedOf, commandOf}
 use Rattle.drive.proofs.command.Statement.{statement}
 use Rattle.drive.proofs.command.Tie as tie
 

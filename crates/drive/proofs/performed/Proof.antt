@@ -1,6 +1,7 @@
-use mathlib.Core.Path.{ap}
+use mathlib.Core.Path.{_≡_, ap}
 use borrow.Author.Needs.{needs}
-use Rattle.drive.specs.Commands.{answeredOf, performedOf}
+use Rattle.packet.specs.Fields.{addressOf, lengthOf}
+use Rattle.drive.specs.Commands.{spanOf, answeredOf, performedOf}
 use Rattle.drive.proofs.performed.Statement.{statement}
 use Rattle.drive.proofs.performed.Tie as tie
 
@@ -18,48 +19,32 @@ returns-3 c =
     let give = c .before .before .before .before in
     let byte = give .before .before in
     let routine = byte .before .before in
-    let length = routine .before .before in
+    let length = routine .before .before .before .before in
     rw (routine .routine .given .1, c .passed3 .ensures, c .before .opened .ensures, ← byte .byte2 .ensures, ← length .length .ensures)
     (ap (answeredOf (length .before .before .before .args .state)) (give .give .ensures))
+
+spanned : (c : tie.After-span)
+    → let x = c .before .before .before .before .before .args in
+    c .span .result ≡ spanOf (x .state .disc) (addressOf (x .packet .now)) (lengthOf (x .rule .length) (x .packet .now))
+spanned c = rw (c .span .ensures, c .before .address .ensures, c .before .before .length .ensures)
 
 returns-4 : tie.Need-returns-4
 unfolding performedOf
 returns-4 c =
-    let span = c .before .before in
-    let address = span .before in
-    let length = address .before .before .before in
-    rw (
-      address .before .enum-told3 .given .1,
-      c .passed4 .ensures,
-      c .before .opened2 .ensures,
-      span .span .ensures,
-      address .address .ensures,
-      length .length .ensures,
-    )
+    let told = c .before .before in
+    rw (told .enum-told3 .given .1, c .passed4 .ensures, c .before .opened2 .ensures, spanned (told .before .before))
 
 returns-5 : tie.Need-returns-5
 unfolding performedOf
 returns-5 c =
-    let span = c .before .before in
-    let address = span .before in
-    let length = address .before .before .before in
-    rw (
-      address .before .enum-told4 .given .1,
-      c .passed5 .ensures,
-      c .before .opened3 .ensures,
-      span .span2 .ensures,
-      address .address2 .ensures,
-      length .length .ensures,
-    )
+    let told = c .before .before in
+    rw (told .enum-told4 .given .1, c .passed5 .ensures, c .before .opened3 .ensures, spanned (told .before .before))
 
 pub performed-spec : {M : Type 1} → statement M
 performed-spec =
     tie.close
     (tie.spec
     (λ _ _. tt)
-    (λ c. search needs)
-    (λ _ _. tt)
-    (λ c. search needs)
     (λ _ _. tt)
     (λ _ _. tt)
     (λ c. search needs)
@@ -67,15 +52,16 @@ performed-spec =
     (λ c. search needs)
     (λ _ _. tt)
     (λ _ _. tt)
+    (λ c. search needs)
     (λ _ _. tt)
     (λ c. search needs)
     (λ _ _. tt)
     (λ _ _. tt)
     (λ _ _. tt)
-    (λ _ _. tt)
     (λ c. search needs)
     (λ _ _. tt)
     (λ _ _. tt)
+    (λ c. search needs)
     (λ _ _. tt)
     (λ _ _. tt)
     returns
