@@ -28,18 +28,18 @@ abbrev own : ℕ → ℕ → List ℕ
 own number code = descriptor (formatOf number .blocks) code (formatOf number .size)
 
 -- "With a disc: its own with code 2, then its own with code 0; length 16, 20 bytes in all."
-unfoldable pub formattedData : ℕ → List ℕ
-formattedData number = zeros 3 ++ 16 ∷ own number 2 ++ own number 0
+unfoldable pub withDiscData : ℕ → List ℕ
+withDiscData number = zeros 3 ++ 16 ∷ own number 2 ++ own number 0
 
 -- "Without: 2880 of 512 with code 3; length 8, 12 bytes in all."
-unfoldable pub unformattedData : List ℕ
-unformattedData = zeros 3 ++ 8 ∷ descriptor 2880 3 512
+unfoldable pub withoutDiscData : List ℕ
+withoutDiscData = zeros 3 ++ 8 ∷ descriptor 2880 3 512
 
 -- "23: three 0, list length, then descriptors"
 unfoldable pub capacitiesData : ℕ → List ℕ
-capacitiesData number = cond (eqb number 0) unformattedData (formattedData number)
+capacitiesData number = cond (eqb number 0) withoutDiscData (withDiscData number)
 
--- "header 00 26, medium type, 80 if protected else 00, four 0"
+-- "5A, 40 bytes: header 00 26, medium type, 80 if protected else 00, four 0"
 abbrev header : ℕ → Bool → List ℕ
 header number prot = 0x00 ∷ 0x26 ∷ formatOf number .medium ∷ cond prot 0x80 0x00 ∷ zeros 4
 
@@ -54,6 +54,6 @@ page number =
     ++ be2 (formatOf number .rpm)
     ++ zeros 2
 
--- "5A, 40 bytes: header .. Page: 05 1E, ..  Page control 1 gives zeros in page bytes 2-31; 0 and 2 give the table."
+-- "Page control 1 gives zeros in page bytes 2-31; 0 and 2 give the table. 3F gives page 05 only."
 unfoldable pub modeData : ℕ → Bool → Bool → List ℕ
 modeData number prot changeable = header number prot ++ 0x05 ∷ 0x1e ∷ cond changeable (zeros 30) (page number)

@@ -5,7 +5,7 @@ use lib.Dec.{eqb}
 use lib.ListN.{length, take, drop}
 use Rattle.state.specs.declared.State.{State}
 use Rattle.packet.specs.declared.Answering.{Answering}
-use Rattle.packet.specs.declared.Answering.the-variants.{Sense, Inquiry, Capacities, Capacity, Mode}
+use Rattle.packet.specs.declared.Answering.the-variants.{Sense, Inquiry, FormatCapacities, Capacity, Mode}
 use Rattle.answer.specs.Answers.{senseData, inquiryData, capacityData, capacitiesData, modeData}
 
 -- how many bytes were put, and the buffer after
@@ -20,17 +20,18 @@ filled count buffer = record { count = count; buffer = buffer }
 abbrev pub shareOf : List ℕ → ℕ → List ℕ → ℕ
 shareOf answer allocation buffer = min (min allocation (length answer)) (length buffer)
 
--- "The first min(allocation, full size) bytes are put at the start of the block buffer, the rest of it is untouched"
+-- "The first min(allocation, full size) bytes are put at the start of the block buffer, the rest of it is untouched"; "Length fields
+-- inside aren't altered by the cut."
 abbrev pub putOf : List ℕ → ℕ → List ℕ → Filled
 putOf answer allocation buffer =
     filled (shareOf answer allocation buffer)
     (take (shareOf answer allocation buffer) answer ++ drop (shareOf answer allocation buffer) buffer)
 
--- each answer, from the state as it was, with the page control where it has one
+-- each answer, with the page control where it has one; "REQUEST SENSE first takes the old triple as its answer and shows no pending flag"
 unfoldable pub answerOf : Answering → State → ℕ → List ℕ
 answerOf Sense s control = senseData (s .sense)
 answerOf Inquiry s control = inquiryData
-answerOf Capacities s control = capacitiesData (s .disc)
+answerOf FormatCapacities s control = capacitiesData (s .disc)
 answerOf Capacity s control = capacityData (s .disc)
 answerOf Mode s control = modeData (s .disc) (s .protected) (eqb control 1)
 
@@ -38,7 +39,7 @@ answerOf Mode s control = modeData (s .disc) (s .protected) (eqb control 1)
 unfoldable pub allocationOf : Answering → ℕ → ℕ
 allocationOf Sense n = n
 allocationOf Inquiry n = n
-allocationOf Capacities n = n
+allocationOf FormatCapacities n = n
 allocationOf Capacity n = 8
 allocationOf Mode n = n
 

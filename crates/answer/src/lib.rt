@@ -2,7 +2,7 @@
 ghost use mathlib.Core.Path.{_≡_};
 ghost use Prim.Native.Nat.{_-_, min};
 ghost use mathlib.Core.Bool.{cond};
-ghost use Rattle.answer.specs.Answers.{senseData, inquiryData, capacityData, formattedData, unformattedData, modeData, capacitiesData};
+ghost use Rattle.answer.specs.Answers.{senseData, inquiryData, capacityData, withDiscData, withoutDiscData, modeData, capacitiesData};
 ghost use Rattle.answer.specs.Giving.{filled, putOf, giveOf};
 use packet::Answering;
 use state::Sense;
@@ -54,8 +54,8 @@ pub fn capacity_data(number: u8) -> [u8; 8]
 }
 
 // 23 with a disc: its own descriptor with code 2, then with code 0.
-pub fn formatted_data(number: u8) -> [u8; 20]
-    ensures { λ r. ⌜ r ≡ formattedData number ⌝ }
+pub fn with_disc_data(number: u8) -> [u8; 20]
+    ensures { λ r. ⌜ r ≡ withDiscData number ⌝ }
 {
     let format = disc::format_of(number);
     let blocks = format.blocks;
@@ -81,8 +81,8 @@ pub fn formatted_data(number: u8) -> [u8; 20]
 }
 
 // 23 without: 2880 of 512 with code 3.
-pub fn unformatted_data() -> [u8; 12]
-    ensures { λ r. ⌜ r ≡ unformattedData ⌝ }
+pub fn without_disc_data() -> [u8; 12]
+    ensures { λ r. ⌜ r ≡ withoutDiscData ⌝ }
 {
     [0, 0, 0, 8, 0, 0, 0x0b, 0x40, 3, 0, 0x02, 0x00]
 }
@@ -141,9 +141,9 @@ fn put_capacities(number: u8, allocation: usize, buffer: &mut [u8]) -> usize
     ensures { λ r. ⌜ filled r (now (buffer .exit)) ≡ putOf (capacitiesData number) allocation (now (buffer .entry)) ⌝ }
 {
     if number == 0 {
-        return put(&unformatted_data(), allocation, buffer);
+        return put(&without_disc_data(), allocation, buffer);
     }
-    put(&formatted_data(number), allocation, buffer)
+    put(&with_disc_data(number), allocation, buffer)
 }
 
 // An answer is put at the start of the buffer, as far as its allocation goes; the count says how far.
@@ -159,7 +159,7 @@ pub fn give(
     match answering {
         Answering::Sense => put(&sense_data(state.sense), allocation, buffer),
         Answering::Inquiry => put(&inquiry_data(), allocation, buffer),
-        Answering::Capacities => put_capacities(state.disc, allocation, buffer),
+        Answering::FormatCapacities => put_capacities(state.disc, allocation, buffer),
         Answering::Capacity => put(&capacity_data(state.disc), 8, buffer),
         Answering::Mode => {
             let data = mode_data(state.disc, state.protected, control == 1);

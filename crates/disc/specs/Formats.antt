@@ -6,7 +6,7 @@ use Rattle.disc.specs.declared.Format.{Format}
 use Rattle.disc.specs.declared.BlockAddress.{BlockAddress}
 use Rattle.disc.specs.declared.BytePlace.{BytePlace}
 
--- "blocks | block bytes | sectors/track | cylinders | rate | rpm | medium type"
+-- a row: blocks, block bytes, sectors a track, cylinders, rate, rpm, medium type
 abbrev row : ℕ → ℕ → ℕ → ℕ → ℕ → ℕ → ℕ → Format
 row blocks size sectors cylinders rate rpm medium =
     record {

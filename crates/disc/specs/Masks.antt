@@ -11,27 +11,34 @@ none = 0xff ∷ 0xe0 ∷ replicate 10 0
 abbrev ff : ℕ → ℕ → List ℕ → List ℕ
 ff i j row = take i row ++ replicate (suc j - i) 0xff ++ drop (suc j) row
 
--- "bytes 2-5 and 7-8 FF"
-abbrev blocks : List ℕ
-blocks = ff 2 5 (ff 7 8 none)
-
--- 00 01 03 12 1B 1E 23 25 28 2A 2B 2E 2F 5A A8 AA
+-- a row for each base command in the order of the codes
 unfoldable pub masks : List (List ℕ)
 masks =
+    -- 00, 01: none
     none
     ∷ none
+    -- 03, 12: byte 4 FF
     ∷ ff 4 4 none
     ∷ ff 4 4 none
+    -- 1B: byte 1 E1, byte 4 03
     ∷ set (set none 1 0xe1) 4 0x03
+    -- 1E: byte 4 01
     ∷ set none 4 0x01
+    -- 23: bytes 7-8 FF
     ∷ ff 7 8 none
+    -- 25: none
     ∷ none
-    ∷ blocks
-    ∷ blocks
+    -- 28, 2A: bytes 2-5 and 7-8 FF
+    ∷ ff 2 5 (ff 7 8 none)
+    ∷ ff 2 5 (ff 7 8 none)
+    -- 2B: bytes 2-5 FF
     ∷ ff 2 5 none
-    ∷ blocks
-    ∷ blocks
+    -- 2E, 2F: bytes 2-5 and 7-8 FF
+    ∷ ff 2 5 (ff 7 8 none)
+    ∷ ff 2 5 (ff 7 8 none)
+    -- 5A: byte 1 E8, bytes 2, 7, 8 FF
     ∷ set (ff 2 2 (ff 7 8 none)) 1 0xe8
+    -- A8, AA: bytes 2-9 FF
     ∷ ff 2 9 none
     ∷ ff 2 9 none
     ∷ []

@@ -4,9 +4,9 @@ use mathlib.Core.List.{[], _∷_, map}
 use Prim.Native.Nat.{ℕ, _*_, _≤_, _<_}
 use Rattle.disc.specs.Formats.{formatOf, heads, bufferBytes, blockBytes, discBytes}
 
--- the column "disc bytes"
+-- the column "disc bytes", and 0 for no disc
 abbrev pub DiscBytesColumn : Type 0
-DiscBytesColumn = map discBytes (1 ∷ 2 ∷ 3 ∷ 4 ∷ []) ≡ 737280 ∷ 1261568 ∷ 1474560 ∷ 32768 ∷ []
+DiscBytesColumn = map discBytes (0 ∷ 1 ∷ 2 ∷ 3 ∷ 4 ∷ []) ≡ 0 ∷ 737280 ∷ 1261568 ∷ 1474560 ∷ 32768 ∷ []
 
 -- cylinders, heads and sectors make up the blocks
 abbrev pub Geometry : Type 0

@@ -9,6 +9,9 @@ pub struct BlockAddress(pub u32);
 // Which byte of a disc.
 pub struct BytePlace(pub usize);
 
+// The block buffer.
+pub const BUFFER_BYTES: usize = 1024;
+
 pub struct Format {
     pub blocks: u32,
     pub size: u16,

@@ -32,12 +32,12 @@ use Rattle.packet.proofs.Passing.{passesB, passing}
 use Rattle.packet.proofs.Table.{opensB, writesB, Guarded, guarded}
 use Rattle.answer.specs.Giving.{giveOf}
 use Rattle.answer.proofs.Lengths.{give-count}
-use Rattle.drive.specs.House.{noneB, firstRefusal, commandTests, insertTests, ejectTests}
+use Rattle.drive.specs.House.{firstRefusal, commandTests, insertTests, ejectTests}
 use Rattle.drive.specs.Events.{insertOf, ejectOf}
 use Rattle.drive.specs.World.{World}
 use Rattle.drive.specs.Commands.{openedOf, spanOf, routineOf, performedOf, obeyedOf, commandHouse, commandOf}
 use Rattle.drive.specs.Theorems.{PowerOnSound, InsertKeeps, EjectKeeps, CommandKeeps}
-use Rattle.drive.proofs.Houses.{let-pass}
+use Rattle.drive.proofs.Houses.{noneB, let-pass}
 
 pub power-on-sound : PowerOnSound
 unfolding soundB namedB openSoundB

@@ -9,16 +9,17 @@ use lib.Dec.{eqb, lit≤}
 use lib.ListN.{length}
 use Rattle.disc.specs.Formats.{bufferBytes, discBytes}
 use Rattle.disc.proofs.Truth.{both}
-use Rattle.state.specs.First.{first}
+use Rattle.packet.specs.First.{first}
 use Rattle.state.specs.States.{failedOf, passedOf}
 use Rattle.state.specs.declared.State.{State}
 use Rattle.state.specs.declared.Attention.the-variants.{PowerOn, Change}
 use Rattle.state.specs.declared.Failure.{Failure}
 use Rattle.state.specs.declared.Failure.the-variants.{Pending, Found}
 use Rattle.state.specs.declared.Transfer.{Transfer}
+use Rattle.state.proofs.Keeps.{failed-disc}
 use Rattle.packet.specs.Fields.{byteAt, lengthOf}
 use Rattle.packet.specs.Rules.{ruleOf}
-use Rattle.packet.specs.Checks.{unitB, failsB, failing, firstOf, checksOf, verdictOf, verdict}
+use Rattle.packet.specs.Checks.{otherUnitB, failsB, failing, firstOf, checksOf, verdictOf, verdict}
 use Rattle.packet.specs.declared.Check.{Check}
 use Rattle.packet.specs.declared.Rule.{Rule}
 use Rattle.packet.specs.declared.Known.{Known}
@@ -30,11 +31,11 @@ use Rattle.packet.specs.declared.Routine.the-variants.{Nothing, Motor, Answer, 
 use Rattle.packet.proofs.Table.{freeB, attended}
 use Rattle.answer.specs.Giving.{giveOf}
 use Rattle.answer.proofs.Lengths.{give-length}
-use Rattle.drive.specs.House.{noneB, commandTests}
+use Rattle.drive.specs.House.{commandTests}
 use Rattle.drive.specs.World.{World, world}
 use Rattle.drive.specs.Commands.{routineOf, performedOf, obeyedOf, commandHouse, commandOf}
-use Rattle.drive.specs.Theorems.{Ready, baseB, attendedB, count, reportsB, someReportsB, SecondAtLatest}
-use Rattle.drive.proofs.Houses.{let-pass}
+use Rattle.drive.specs.Theorems.{Ready, baseB, attendedB, attendedCount, reportsB, someReportsB, SecondAtLatest}
+use Rattle.drive.proofs.Houses.{noneB, let-pass}
 use Rattle.drive.proofs.Keeps.{command-keeps}
 
 abbrev attentionB : Failure → Bool
@@ -73,14 +74,14 @@ module _ (w : World) (p : List ℕ) where
   routine-keeps n Write = by-passing _ _ _ refl
 
   obeyed-lent : (v : Verdict) → Lent w (obeyedOf v w p .world)
-  unfolding failedOf performedOf
-  obeyed-lent (Fails f) = record { number = refl; buffer = refl; disc = refl }
+  unfolding performedOf
+  obeyed-lent (Fails f) = record { number = failed-disc (w .state) f; buffer = refl; disc = refl }
   obeyed-lent (Passes rule) = routine-keeps (lengthOf (rule .length) p) (rule .routine) .0
 
   obeyed-flags : (v : Verdict) → pendingB v ≡ false → Flags w (obeyedOf v w p .world)
   unfolding failedOf performedOf
   obeyed-flags (Fails (Pending a)) e = absurd (true≢false e)
-  obeyed-flags (Fails (Found f)) e = record { power = and-true (w .state .«power_on»); change = and-true (w .state .change) }
+  obeyed-flags (Fails (Found f)) e = record { power = refl; change = refl }
   obeyed-flags (Passes rule) e = routine-keeps (lengthOf (rule .length) p) (rule .routine) .1
 
 pub ready-next : (w : World) (p : List ℕ) → Ready w → Ready (commandOf w p .world)
@@ -116,7 +117,7 @@ calm (c ∷ cs) rule e =
     here true one more = sym (and-true (attentionB (c .1))) ∙ not-true (attentionB (c .1) && true) one
 
 module _ (s : State) (p : List ℕ) (rule : Rule) (known : ruleOf (byteAt p 0) ≡ Base rule) where
-  other-unit : unitB p ≡ true → pendingB (verdict s p) ≡ false
+  other-unit : otherUnitB p ≡ true → pendingB (verdict s p) ≡ false
   unfolding verdict checksOf
   other-unit e = rw (known, e)
 
@@ -125,7 +126,7 @@ module _ (s : State) (p : List ℕ) (rule : Rule) (known : ruleOf (byteAt p 0) �
   unasked free =
       rw known (calm (checksOf s rule p) rule (rw (attended (byteAt p 0) rule known, free)))
 
-  module _ (unit : unitB p ≡ false) (free : freeB (byteAt p 0) ≡ false) where
+  module _ (unit : otherUnitB p ≡ false) (free : freeB (byteAt p 0) ≡ false) where
     power-first : s .«power_on» ≡ true → verdict s p ≡ Fails (Pending PowerOn)
     unfolding verdict checksOf
     power-first on = rw (known, unit, attended (byteAt p 0) rule known, free, on)
@@ -146,28 +147,28 @@ record Asked (p : List ℕ) : Type 0 where
   long : length p ≡ 12
   rule : Rule
   known : ruleOf (byteAt p 0) ≡ Base rule
-  unit : unitB p ≡ false
+  unit : otherUnitB p ≡ false
   free : freeB (byteAt p 0) ≡ false
 
 asked : (p : List ℕ) → attendedB p ≡ true → Asked p
 asked p e =
     let long = eqb (length p) 12 in
     let base = baseB (ruleOf (byteAt p 0)) in
-    let (lbu, free) = both (long && base && not (unitB p)) (not (freeB (byteAt p 0))) e in
-    let (lb, unit) = both (long && base) (not (unitB p)) lbu in
+    let (lbu, free) = both (long && base && not (otherUnitB p)) (not (freeB (byteAt p 0))) e in
+    let (lb, unit) = both (long && base) (not (otherUnitB p)) lbu in
     let (l, b) = both long base lb in
-    here (ruleOf (byteAt p 0)) refl b (eqb-true (length p) 12 l) (not-true (unitB p) unit) (not-true (freeB (byteAt p 0)) free)
+    here (ruleOf (byteAt p 0)) refl b (eqb-true (length p) 12 l) (not-true (otherUnitB p) unit) (not-true (freeB (byteAt p 0)) free)
   where
-    here : (k : Known) → ruleOf (byteAt p 0) ≡ k → baseB k ≡ true → length p ≡ 12 → unitB p ≡ false → freeB (byteAt p 0) ≡ false → Asked p
+    here : (k : Known) → ruleOf (byteAt p 0) ≡ k → baseB k ≡ true → length p ≡ 12 → otherUnitB p ≡ false → freeB (byteAt p 0) ≡ false → Asked p
     here Unknown q b l u f = absurd (false≢true b)
     here (Base rule) q b l u f = record { long = l; rule = rule; known = q; unit = u; free = f }
 
 -- any other packet reports no attention
 other : (s : State) (p : List ℕ) → length p ≡ 12 → attendedB p ≡ false → pendingB (verdict s p) ≡ false
 unfolding verdict
-other s p long e = here (ruleOf (byteAt p 0)) refl (unitB p) refl (freeB (byteAt p 0)) refl
+other s p long e = here (ruleOf (byteAt p 0)) refl (otherUnitB p) refl (freeB (byteAt p 0)) refl
   where
-    here : (k : Known) → ruleOf (byteAt p 0) ≡ k → (u : Bool) → unitB p ≡ u → (f : Bool) → freeB (byteAt p 0) ≡ f
+    here : (k : Known) → ruleOf (byteAt p 0) ≡ k → (u : Bool) → otherUnitB p ≡ u → (f : Bool) → freeB (byteAt p 0) ≡ f
         → pendingB (verdict s p) ≡ false
     here Unknown q u v f g = rw q
     here (Base rule) q true v f g = other-unit s p rule q v
@@ -183,15 +184,15 @@ one-or-two true = (lit≤ tt, lit≤ tt)
 one-or-two false = (lit≤ tt, lit≤ tt)
 
 module _ (p : List ℕ) (ps : List (List ℕ))
-    (more : (v : World) → Ready v → v .state .change ≡ true → needed (v .state) ≤ count ps → someReportsB v ps ≡ true) (w : World) (r : Ready w)
+    (more : (v : World) → Ready v → v .state .change ≡ true → needed (v .state) ≤ attendedCount ps → someReportsB v ps ≡ true) (w : World) (r : Ready w)
     (on : w .state .change ≡ true) where
   -- the rest of the run reports it
-  later : commandOf w p .world .state .change ≡ true → needed (commandOf w p .world .state) ≤ count ps → someReportsB w (p ∷ ps) ≡ true
-  later change few = rw (more (commandOf w p .world) (ready-next w p r) change few) (or-true (reportsB (commandOf w p)))
+  later : commandOf w p .world .state .change ≡ true → needed (commandOf w p .world .state) ≤ attendedCount ps → someReportsB w (p ∷ ps) ≡ true
+  later change few = rw (more (commandOf w p .world) (ready-next w p r) change few) (or-true (attendedB p && reportsB (commandOf w p)))
 
-  at-asked : Asked p → needed (w .state) ≤ suc (count ps) → someReportsB w (p ∷ ps) ≡ true
+  at-asked : attendedB p ≡ true → Asked p → needed (w .state) ≤ suc (attendedCount ps) → someReportsB w (p ∷ ps) ≡ true
   unfolding failedOf
-  at-asked a h = here (w .state .«power_on») refl
+  at-asked e a h = here (w .state .«power_on») refl
     where
       answers : (f : Failure) → verdict (w .state) p ≡ Fails f → commandOf w p ≡ obeyedOf (Fails f) w p
       answers f e = let-in w p r (a .long) ∙ ap (λ (v : Verdict). obeyedOf v w p) e
@@ -200,10 +201,10 @@ module _ (p : List ℕ) (ps : List (List ℕ))
       here true q =
           let power = answers (Pending PowerOn) (power-first (w .state) p (a .rule) (a .known) (a .unit) (a .free) q) in
           let two = rw q at h in
-          later (rw (power, on)) (rw (power, q) (omega arith))
-      here false q = rw (answers (Pending Change) (change-first (w .state) p (a .rule) (a .known) (a .unit) (a .free) q on))
+          later (rw power on) (rw power (omega arith))
+      here false q = rw (e, answers (Pending Change) (change-first (w .state) p (a .rule) (a .known) (a .unit) (a .free) q on))
 
-  at-other : attendedB p ≡ false → needed (w .state) ≤ count ps → someReportsB w (p ∷ ps) ≡ true
+  at-other : attendedB p ≡ false → needed (w .state) ≤ attendedCount ps → someReportsB w (p ∷ ps) ≡ true
   unfolding commandOf commandTests
   at-other e h = here (noneB (commandHouse w p)) refl
     where
@@ -215,14 +216,14 @@ module _ (p : List ℕ) (ps : List (List ℕ))
           let flags = obeyed-flags w p (verdict (w .state) p) (other (w .state) p long e) in
           later (rw q (flags .change ∙ on)) (rw (q, flags .power) h)
 
-at-latest : (ps : List (List ℕ)) (w : World) → Ready w → w .state .change ≡ true → needed (w .state) ≤ count ps → someReportsB w ps ≡ true
+at-latest : (ps : List (List ℕ)) (w : World) → Ready w → w .state .change ≡ true → needed (w .state) ≤ attendedCount ps → someReportsB w ps ≡ true
 at-latest [] w r on h = absurd (omega (arith, one-or-two (w .state .«power_on») .0))
 at-latest (p ∷ ps) w r on h = here (attendedB p) refl (λ v s o n. at-latest ps v s o n)
   where
     here : (b : Bool) → attendedB p ≡ b
-        → ((v : World) → Ready v → v .state .change ≡ true → needed (v .state) ≤ count ps → someReportsB v ps ≡ true)
+        → ((v : World) → Ready v → v .state .change ≡ true → needed (v .state) ≤ attendedCount ps → someReportsB v ps ≡ true)
         → someReportsB w (p ∷ ps) ≡ true
-    here true q more = at-asked p ps more w r on (asked p q) (rw q at h)
+    here true q more = at-asked p ps more w r on q (asked p q) (rw q at h)
     here false q more = at-other p ps more w r on q (rw q at h)
 
 pub second-at-latest : SecondAtLatest

@@ -19,8 +19,8 @@ use Rattle.drive.specs.Commands.{commandOf}
 abbrev plain : State
 plain = stateOf 3 false false false false noSense Closed
 
-abbrev prot : State
-prot = stateOf 3 true false false false noSense Closed
+abbrev protectedDisc : State
+protectedDisc = stateOf 3 true false false false noSense Closed
 
 abbrev pending : State
 pending = stateOf 3 false false false true noSense Closed
@@ -28,15 +28,15 @@ pending = stateOf 3 false false false true noSense Closed
 abbrev afterFailure : State
 afterFailure = stateOf 3 false false false false (triple 0x05 0x21 0x00) Closed
 
--- packets: code, address and length at bytes 7-8; at bytes 6-9; code, byte 2 and byte 4
-abbrev ten : ℕ → ℕ → ℕ → List ℕ
-ten code address length = code ∷ 0 ∷ be4 address ++ 0 ∷ be2 length ++ replicate 3 0
+-- packets: code, address, and length at bytes 7-8 or at bytes 6-9; code, byte 2 and byte 4
+abbrev lengthAt7 : ℕ → ℕ → ℕ → List ℕ
+lengthAt7 code address length = code ∷ 0 ∷ be4 address ++ 0 ∷ be2 length ++ replicate 3 0
 
-abbrev twelve : ℕ → ℕ → ℕ → List ℕ
-twelve code address length = code ∷ 0 ∷ be4 address ++ be4 length ++ replicate 2 0
+abbrev lengthAt6 : ℕ → ℕ → ℕ → List ℕ
+lengthAt6 code address length = code ∷ 0 ∷ be4 address ++ be4 length ++ replicate 2 0
 
-abbrev six : ℕ → ℕ → ℕ → List ℕ
-six code two four = code ∷ 0 ∷ two ∷ 0 ∷ four ∷ replicate 7 0
+abbrev bytes2And4 : ℕ → ℕ → ℕ → List ℕ
+bytes2And4 code two four = code ∷ 0 ∷ two ∷ 0 ∷ four ∷ replicate 7 0
 
 -- the state before, the packet, whether it passes, the state after
 pub record Case : Type 0 where
@@ -64,17 +64,17 @@ answer size = Answer (record { at = 0; left = size })
 
 abbrev pub cases : List Case
 cases =
-    (plain gets ten 0x28 2879 1 passes lastBlock)
-    ∷ (plain gets ten 0x28 2879 2 fails triple 0x05 0x21 0x00)
-    ∷ (plain gets ten 0x28 2879 0 passes Closed)
-    ∷ (plain gets ten 0x28 2880 0 fails triple 0x05 0x21 0x00)
-    ∷ (plain gets twelve 0xa8 0xffffffff 2 fails triple 0x05 0x21 0x00)
-    ∷ (prot gets ten 0x2a 2880 1 fails triple 0x05 0x21 0x00)
-    ∷ (prot gets ten 0x2a 0 0 fails triple 0x07 0x27 0x00)
-    ∷ (pending gets six 0x55 0 0 fails triple 0x05 0x20 0x00)
-    ∷ (pending gets six 0x12 0 36 passes answer 36)
-    ∷ (plain gets six 0x5a 0xff 0 fails triple 0x05 0x39 0x00)
-    ∷ (afterFailure gets six 0x03 0 0 passes Closed)
+    (plain gets lengthAt7 0x28 2879 1 passes lastBlock)
+    ∷ (plain gets lengthAt7 0x28 2879 2 fails triple 0x05 0x21 0x00)
+    ∷ (plain gets lengthAt7 0x28 2879 0 passes Closed)
+    ∷ (plain gets lengthAt7 0x28 2880 0 fails triple 0x05 0x21 0x00)
+    ∷ (plain gets lengthAt6 0xa8 0xffffffff 2 fails triple 0x05 0x21 0x00)
+    ∷ (protectedDisc gets lengthAt7 0x2a 2880 1 fails triple 0x05 0x21 0x00)
+    ∷ (protectedDisc gets lengthAt7 0x2a 0 0 fails triple 0x07 0x27 0x00)
+    ∷ (pending gets bytes2And4 0x55 0 0 fails triple 0x05 0x20 0x00)
+    ∷ (pending gets bytes2And4 0x12 0 36 passes answer 36)
+    ∷ (plain gets bytes2And4 0x5a 0xff 0 fails triple 0x05 0x39 0x00)
+    ∷ (afterFailure gets bytes2And4 0x03 0 0 passes Closed)
     ∷ []
 
 -- what is heard and remembered: the house number, whether it passed, the state

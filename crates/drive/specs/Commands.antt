@@ -43,18 +43,18 @@ after state buffer = record { state = state; buffer = buffer }
 abbrev pub answeredOf : State → Filled → After
 answeredOf s f = after (passedOf s (s .motor) (openedOf (f .count) (AnswerFrom (record { at = 0; left = f .count })))) (f .buffer)
 
+-- a transfer of so many blocks from the packet's address
+abbrev pub movingOf : (DiscAt → Transfer) → State → List ℕ → ℕ → State
+movingOf way s p n = let span = spanOf (s .disc) (addressOf p) n in passedOf s (s .motor) (openedOf (span .left) (way span))
+
 -- "1B sets the motor flag from byte 4 bit 0"; "28 and A8 (each a READ) open a read, 2A, 2E and AA (each a WRITE) a write";
 -- "00, 01, 1E, 2B, 2F pass and do nothing more"
 abbrev pub routineOf : Routine → State → List ℕ → ℕ → List ℕ → After
 routineOf Nothing s p n buffer = after (passedOf s (s .motor) Closed) buffer
 routineOf Motor s p n buffer = after (passedOf s (eqb (byteAt p 4 % 2) 1) Closed) buffer
 routineOf (Answer a) s p n buffer = answeredOf s (giveOf a s (byteAt p 2 / 64) n buffer)
-routineOf Read s p n buffer =
-    let span = spanOf (s .disc) (addressOf p) n in
-    after (passedOf s (s .motor) (openedOf (span .left) (ReadFrom span))) buffer
-routineOf Write s p n buffer =
-    let span = spanOf (s .disc) (addressOf p) n in
-    after (passedOf s (s .motor) (openedOf (span .left) (WriteTo span))) buffer
+routineOf Read s p n buffer = after (movingOf ReadFrom s p n) buffer
+routineOf Write s p n buffer = after (movingOf WriteTo s p n) buffer
 
 unfoldable pub performedOf : State → Rule → List ℕ → List ℕ → After
 performedOf s rule p buffer = routineOf (rule .routine) s p (lengthOf (rule .length) p) buffer
@@ -72,7 +72,7 @@ commanded r buffer disc = record { house = numberOf (r .house); passed = r .pass
 abbrev pub accepted : Bool → After → List ℕ → Commanded
 accepted passed a disc = record { house = 0; passed = passed; world = world (a .state) (a .buffer) disc }
 
--- past the house tests; a failed command leaves the block buffer
+-- "A packet past tests 1 to 4 first closes any open transfer": what a command leaves open is its own; a failed one leaves the block buffer
 abbrev pub obeyedOf : Verdict → World → List ℕ → Commanded
 obeyedOf (Fails f) w p = accepted false (after (failedOf (w .state) f) (w .buffer)) (w .disc)
 obeyedOf (Passes rule) w p = accepted true (performedOf (w .state) rule p (w .buffer)) (w .disc)

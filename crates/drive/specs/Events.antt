@@ -1,4 +1,4 @@
--- Insertion and ejection: the paper's number and the state after. A refusal leaves the state.
+-- Paper 01, "House refusals": insertion and ejection.
 use mathlib.Core.Bool.{Bool, cond}
 use mathlib.Core.List.{List}
 use Prim.Native.Nat.{ℕ}
@@ -17,11 +17,14 @@ pub record Happened : Type 0 where
 abbrev pub happened : EventReply → Happened
 happened r = record { house = numberOf (r .house); state = r .state }
 
+-- "Each returns its number .. and leaves state .. as they were."
 abbrev pub unlessRefused : ℕ → State → State → Happened
 unlessRefused house s next = record { house = house; state = cond (eqb house 0) next s }
 
+-- "Insertion tests 2, 5, 7, 4"
 unfoldable pub insertOf : State → ℕ → Bool → List ℕ → Happened
 insertOf s number prot disc = unlessRefused (firstRefusal (insertTests s number (length disc))) s (insertedOf s number prot)
 
+-- "ejection 2, 6"
 unfoldable pub ejectOf : State → Happened
 ejectOf s = unlessRefused (firstRefusal (ejectTests s)) s (ejectedOf s)

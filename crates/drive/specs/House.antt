@@ -4,7 +4,7 @@ use mathlib.Core.List.{List, [], _∷_}
 use Prim.Native.Nat.{ℕ}
 use lib.Dec.{eqb, ltb}
 use Rattle.disc.specs.Formats.{bufferBytes, discBytes}
-use Rattle.state.specs.First.{first}
+use Rattle.packet.specs.First.{first}
 use Rattle.state.specs.declared.State.{State}
 use Rattle.state.specs.Sound.{soundB}
 use Rattle.drive.specs.declared.Test.{Test}
@@ -31,73 +31,55 @@ numberOf DiscIn = 5
 numberOf NoDiscIn = 6
 numberOf NoSuchDisc = 7
 
--- the columns "No." and "when"
-pub record Refusal : Type 0 where
-  pub number : ℕ
-  pub given : Bool
+infix 20 _gives_
+abbrev pub _gives_ : Bool → House → Test
+fails gives house = record { 0 = fails; 1 = house }
 
-infix 20 _when_
-abbrev pub _when_ : ℕ → Bool → Refusal
-number when given = record { number = number; given = given }
-
--- the first that is given, 0 for none
-abbrev pub givenB : Refusal → Bool
-givenB r = r .given
-
-abbrev pub number : Refusal → ℕ
-number r = r .number
-
-abbrev pub firstRefusal : List Refusal → ℕ
-firstRefusal rs = first givenB number rs 0
-
-abbrev pub noneB : ℕ → Bool
-noneB house = eqb house 0
-
--- the same of the tests as the code has them
+-- the first test to fail gives its number, 0 where none does: "It is given exactly then."
 abbrev pub failsB : Test → Bool
 failsB t = t .0
 
 abbrev pub refusing : Test → ℕ
 refusing t = numberOf (t .1)
 
-abbrev pub firstNumber : List Test → ℕ
-firstNumber ts = first failsB refusing ts 0
+abbrev pub firstRefusal : List Test → ℕ
+firstRefusal tests = first failsB refusing tests 0
 
 -- "the packet isn't 12 bytes"
-abbrev refusal1 : ℕ → Refusal
-refusal1 packet = 1 when not (eqb packet 12)
+abbrev refusal1 : ℕ → Test
+refusal1 packet = not (eqb packet 12) gives PacketLength
 
 -- "the state isn't sound"
-abbrev refusal2 : State → Refusal
-refusal2 s = 2 when not (soundB s)
+abbrev refusal2 : State → Test
+refusal2 s = not (soundB s) gives Unsound
 
 -- "the block buffer isn't 1,024 bytes"
-abbrev refusal3 : ℕ → Refusal
-refusal3 buffer = 3 when not (eqb buffer bufferBytes)
+abbrev refusal3 : ℕ → Test
+refusal3 buffer = not (eqb buffer bufferBytes) gives BufferLength
 
 -- "the lent disc isn't as long as its number says, 0 for none"
-abbrev refusal4 : ℕ → ℕ → Refusal
-refusal4 number disc = 4 when not (eqb disc (discBytes number))
+abbrev refusal4 : ℕ → ℕ → Test
+refusal4 number disc = not (eqb disc (discBytes number)) gives DiscLength
 
 -- "insertion with a disc in"
-abbrev refusal5 : State → Refusal
-refusal5 s = 5 when not (eqb (s .disc) 0)
+abbrev refusal5 : State → Test
+refusal5 s = not (eqb (s .disc) 0) gives DiscIn
 
 -- "ejection with none in"
-abbrev refusal6 : State → Refusal
-refusal6 s = 6 when eqb (s .disc) 0
+abbrev refusal6 : State → Test
+refusal6 s = eqb (s .disc) 0 gives NoDiscIn
 
 -- "insertion of a number outside 1 to 4"
-abbrev refusal7 : ℕ → Refusal
-refusal7 number = 7 when eqb number 0 || ltb 4 number
+abbrev refusal7 : ℕ → Test
+refusal7 number = eqb number 0 || ltb 4 number gives NoSuchDisc
 
 -- what is lent counts by its length
-unfoldable pub commandTests : State → ℕ → ℕ → ℕ → List Refusal
+unfoldable pub commandTests : State → ℕ → ℕ → ℕ → List Test
 commandTests s packet buffer disc = refusal1 packet ∷ refusal2 s ∷ refusal3 buffer ∷ refusal4 (s .disc) disc ∷ []
 
 -- "Insertion tests 2, 5, 7, 4; ejection 2, 6"
-unfoldable pub insertTests : State → ℕ → ℕ → List Refusal
+unfoldable pub insertTests : State → ℕ → ℕ → List Test
 insertTests s number disc = refusal2 s ∷ refusal5 s ∷ refusal7 number ∷ refusal4 number disc ∷ []
 
-unfoldable pub ejectTests : State → List Refusal
+unfoldable pub ejectTests : State → List Test
 ejectTests s = refusal2 s ∷ refusal6 s ∷ []

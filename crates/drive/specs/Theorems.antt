@@ -14,7 +14,7 @@ use Rattle.state.specs.States.{powerOn}
 use Rattle.state.specs.Sound.{soundB}
 use Rattle.packet.specs.Fields.{byteAt}
 use Rattle.packet.specs.Rules.{ruleOf}
-use Rattle.packet.specs.Checks.{unitB}
+use Rattle.packet.specs.Checks.{otherUnitB}
 use Rattle.packet.specs.declared.Known.{Known}
 use Rattle.packet.specs.declared.Known.the-variants.{Unknown, Base}
 use Rattle.drive.specs.declared.EventReply.{EventReply}
@@ -59,7 +59,7 @@ OneCommand =
 -- ---- "So while a change is pending, of the commands that pass A and B and aren't 03 or 12, the second at the latest reports a
 -- ---- change, if no event comes between."
 
--- "from a sound state with the right buffers"
+-- a sound state with the right buffers
 pub record Ready (w : World) : Type 0 where
   pub sound : soundB (w .state) ≡ true
   pub buffer : length (w .buffer) ≡ bufferBytes
@@ -74,23 +74,23 @@ abbrev pub attendedB : List ℕ → Bool
 attendedB p =
     eqb (length p) 12
     && baseB (ruleOf (byteAt p 0))
-    && not (unitB p)
+    && not (otherUnitB p)
     && not (eqb (byteAt p 0) 0x03 || eqb (byteAt p 0) 0x12)
 
-abbrev pub count : List (List ℕ) → ℕ
-count [] = 0
-count (p ∷ ps) = cond (attendedB p) (suc (count ps)) (count ps)
+abbrev pub attendedCount : List (List ℕ) → ℕ
+attendedCount [] = 0
+attendedCount (p ∷ ps) = cond (attendedB p) (suc (attendedCount ps)) (attendedCount ps)
 
 -- the command was accepted, failed, and answers 06 28 00
 abbrev pub reportsB : Commanded → Bool
 reportsB c = eqb (c .house) 0 && not (c .passed) && sameB (c .world .state .sense) (senseOf (Pending Change))
 
--- some command of a run reports a change
+-- some such command of a run reports a change
 abbrev pub someReportsB : World → List (List ℕ) → Bool
 someReportsB w [] = false
-someReportsB w (p ∷ ps) = reportsB (commandOf w p) || someReportsB (commandOf w p .world) ps
+someReportsB w (p ∷ ps) = attendedB p && reportsB (commandOf w p) || someReportsB (commandOf w p .world) ps
 
 -- any packets at all may stand in the run, of any length; two of them have to be such commands
 abbrev pub SecondAtLatest : Type 0
 SecondAtLatest =
-    (w : World) (ps : List (List ℕ)) → Ready w → w .state .change ≡ true → 2 ≤ count ps → someReportsB w ps ≡ true
+    (w : World) (ps : List (List ℕ)) → Ready w → w .state .change ≡ true → 2 ≤ attendedCount ps → someReportsB w ps ≡ true

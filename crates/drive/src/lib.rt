@@ -1,7 +1,7 @@
 // The box: its entries, each with its house refusals. An entry is answered whatever it is lent.
 ghost use mathlib.Core.Path.{_≡_};
 ghost use Rattle.state.specs.States.{powerOn};
-ghost use Rattle.drive.specs.House.{numberOf, firstNumber, firstRefusal, commandTests, insertTests, ejectTests};
+ghost use Rattle.drive.specs.House.{numberOf, firstRefusal, commandTests, insertTests, ejectTests};
 ghost use Rattle.drive.specs.Events.{happened, insertOf, ejectOf};
 ghost use Rattle.drive.specs.World.{world};
 ghost use Rattle.drive.specs.Commands.{openedOf, spanOf, after, performedOf, commanded, commandOf};
@@ -64,7 +64,7 @@ pub fn power_on() -> State
 }
 
 fn first_refusal(tests: [Test; 4]) -> House
-    ensures { λ r. ⌜ numberOf r ≡ firstNumber tests ⌝ }
+    ensures { λ r. ⌜ numberOf r ≡ firstRefusal tests ⌝ }
 {
     let mut i = 0;
     while i < 4 {
@@ -140,7 +140,7 @@ fn command_house(state: State, packet: usize, buffer: usize, disc: usize) -> Hou
     first_refusal([
         Test(packet != 12, House::PacketLength),
         Test(!state::sound(state), House::Unsound),
-        Test(buffer != 1024, House::BufferLength),
+        Test(buffer != disc::BUFFER_BYTES, House::BufferLength),
         Test(disc != disc::disc_bytes(state.disc), House::DiscLength),
     ])
 }

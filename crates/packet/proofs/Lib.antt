@@ -1,3 +1,4 @@
+pub mod First
 pub mod Below
 pub mod Find
 pub mod Passing

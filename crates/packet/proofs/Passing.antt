@@ -4,7 +4,7 @@ use mathlib.Core.Bool.{Bool, true, false}
 use mathlib.Core.List.{List}
 use Prim.Native.Nat.{ℕ}
 use Rattle.state.specs.declared.State.{State}
-use Rattle.state.proofs.First.{NoneFails, none-failed}
+use Rattle.packet.proofs.First.{NoneFails, none-failed}
 use Rattle.packet.specs.Checks.{failsB, failing, checksOf, firstOf}
 use Rattle.packet.specs.declared.Rule.{Rule}
 use Rattle.packet.specs.declared.Verdict.{Verdict}

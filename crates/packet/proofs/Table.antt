@@ -67,7 +67,7 @@ guarded code rule known =
       unprotected = of-base (λ code rule. not (writesB (rule .routine)) || rule .asked .unprotected) refl code rule known;
     }
 
--- "C: not for 03 and 12"
+-- check C is asked of all but 03 and 12
 abbrev pub freeB : ℕ → Bool
 freeB code = eqb code 0x03 || eqb code 0x12
 

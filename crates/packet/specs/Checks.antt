@@ -7,7 +7,7 @@ use lib.Dec.{eqb, leb, ltb}
 use Rattle.disc.specs.Formats.{formatOf}
 use Rattle.disc.specs.Masks.{maskRow}
 use Rattle.disc.specs.declared.BlockAddress.{BlockAddress}
-use Rattle.state.specs.First.{first}
+use Rattle.packet.specs.First.{first}
 use Rattle.state.specs.declared.State.{State}
 use Rattle.state.specs.declared.Attention.the-variants.{PowerOn, Change}
 use Rattle.state.specs.declared.Fault.the-variants.{UnknownCode, OtherUnit, NoDisc, BadField, NotSaved, OutOfRange, Protected}
@@ -16,7 +16,7 @@ use Rattle.state.specs.declared.Failure.the-variants.{Pending, Found}
 use Rattle.packet.specs.Fields.{byteAt, addressOf, lengthOf}
 use Rattle.packet.specs.Rules.{ruleOf}
 use Rattle.packet.specs.declared.Values.{Values}
-use Rattle.packet.specs.declared.Values.the-variants.{Any, Zero, Page}
+use Rattle.packet.specs.declared.Values.the-variants.{Any, ZeroBits, Page}
 use Rattle.packet.specs.declared.Rule.{Rule}
 use Rattle.packet.specs.declared.Known.{Known}
 use Rattle.packet.specs.declared.Known.the-variants.{Unknown, Base}
@@ -25,8 +25,8 @@ use Rattle.packet.specs.declared.Verdict.{Verdict}
 use Rattle.packet.specs.declared.Verdict.the-variants.{Passes, Fails}
 
 -- not B: "unit number (byte 1, bits 7-5) is 0"
-abbrev pub unitB : List ℕ → Bool
-unitB p = not (eqb (byteAt p 1 / 32) 0)
+abbrev pub otherUnitB : List ℕ → Bool
+otherUnitB p = not (eqb (byteAt p 1 / 32) 0)
 
 -- E: "no bit set outside the mask", at one byte and at each below n
 abbrev pub bitsB : List ℕ → List ℕ → ℕ → Bool
@@ -40,16 +40,16 @@ unfoldable pub inMaskB : List ℕ → ℕ → Bool
 inMaskB p row = belowB (bitsB p (maskRow row)) 12
 
 -- not F: "1B has byte 4 bit 1 zero; 1E has byte 4 bit 0 zero; 5A has page (byte 2, bits 5-0) 05 or 3F"
-abbrev pub valueB : Values → List ℕ → Bool
-valueB Any p = false
-valueB (Zero bits) p = not (eqb (bitAnd (byteAt p 4) bits) 0)
-valueB Page p = not (eqb (byteAt p 2 % 64) 0x05) && not (eqb (byteAt p 2 % 64) 0x3f)
+abbrev pub badValueB : Values → List ℕ → Bool
+badValueB Any p = false
+badValueB (ZeroBits bits) p = not (eqb (bitAnd (byteAt p 4) bits) 0)
+badValueB Page p = not (eqb (byteAt p 2 % 64) 0x05) && not (eqb (byteAt p 2 % 64) 0x3f)
 
 -- not F2: "5A has page control (byte 2, bits 7-6) not 3"
-abbrev pub controlB : Values → List ℕ → Bool
-controlB Any p = false
-controlB (Zero bits) p = false
-controlB Page p = eqb (byteAt p 2 / 64) 3
+abbrev pub badControlB : Values → List ℕ → Bool
+badControlB Any p = false
+badControlB (ZeroBits bits) p = false
+badControlB Page p = eqb (byteAt p 2 / 64) 3
 
 -- not G: "address at most the last block, and address plus length at most the block count"
 abbrev pub pastEndB : ℕ → BlockAddress → ℕ → Bool
@@ -62,14 +62,22 @@ fails gives failure = record { 0 = fails; 1 = failure }
 -- B to H of a base command
 unfoldable pub checksOf : State → Rule → List ℕ → List Check
 checksOf s rule p =
-    (unitB p gives Found OtherUnit)
+    -- B
+    (otherUnitB p gives Found OtherUnit)
+    -- C
     ∷ (rule .asked .attention && s .«power_on» gives Pending PowerOn)
     ∷ (rule .asked .attention && s .change gives Pending Change)
+    -- D
     ∷ (rule .asked .disc && eqb (s .disc) 0 gives Found NoDisc)
+    -- E
     ∷ (not (inMaskB p (rule .row)) gives Found BadField)
-    ∷ (valueB (rule .values) p gives Found BadField)
-    ∷ (controlB (rule .values) p gives Found NotSaved)
+    -- F
+    ∷ (badValueB (rule .values) p gives Found BadField)
+    -- F2
+    ∷ (badControlB (rule .values) p gives Found NotSaved)
+    -- G
     ∷ (rule .asked .range && pastEndB (s .disc) (addressOf p) (lengthOf (rule .length) p) gives Found OutOfRange)
+    -- H
     ∷ (rule .asked .unprotected && s .protected gives Found Protected)
     ∷ []
 

@@ -1,3 +1,4 @@
+pub mod First
 pub mod Fields
 pub mod Rules
 pub mod Checks

@@ -2,7 +2,7 @@
 ghost use mathlib.Core.Path.{_≡_};
 ghost use Rattle.packet.specs.Fields.{byteAt, word, long, addressOf, lengthOf};
 ghost use Rattle.packet.specs.Rules.{baseOf, ruleOf};
-ghost use Rattle.packet.specs.Checks.{unitB, inMaskB, valueB, controlB, pastEndB, firstOf, checksOf, verdict};
+ghost use Rattle.packet.specs.Checks.{otherUnitB, inMaskB, badValueB, badControlB, pastEndB, firstOf, checksOf, verdict};
 use disc::BlockAddress;
 use state::Attention;
 use state::Failure;
@@ -49,35 +49,35 @@ pub struct Asked {
     pub unprotected: bool,
 }
 
-const ALWAYS: Asked = Asked {
+const ASKS_NOTHING: Asked = Asked {
     attention: false,
     disc: false,
     range: false,
     unprotected: false,
 };
 
-const ATTENDED: Asked = Asked {
+const ASKS_C: Asked = Asked {
     attention: true,
     disc: false,
     range: false,
     unprotected: false,
 };
 
-const ON_DISC: Asked = Asked {
+const ASKS_CD: Asked = Asked {
     attention: true,
     disc: true,
     range: false,
     unprotected: false,
 };
 
-const IN_RANGE: Asked = Asked {
+const ASKS_CDG: Asked = Asked {
     attention: true,
     disc: true,
     range: true,
     unprotected: false,
 };
 
-const STORING: Asked = Asked {
+const ASKS_CDGH: Asked = Asked {
     attention: true,
     disc: true,
     range: true,
@@ -87,7 +87,7 @@ const STORING: Asked = Asked {
 // What the checks F and F2 look at: nothing, bits of byte 4 that have to be zero, or page and page control.
 pub enum Values {
     Any,
-    Zero(u8),
+    ZeroBits(u8),
     Page,
 }
 
@@ -104,7 +104,7 @@ pub enum Field {
 pub enum Answering {
     Sense,
     Inquiry,
-    Capacities,
+    FormatCapacities,
     Capacity,
     Mode,
 }
@@ -126,7 +126,7 @@ const GIVE_SENSE: Routine = Routine::Answer(Answering::Sense);
 
 const GIVE_INQUIRY: Routine = Routine::Answer(Answering::Inquiry);
 
-const GIVE_CAPACITIES: Routine = Routine::Answer(Answering::Capacities);
+const GIVE_FORMAT_CAPACITIES: Routine = Routine::Answer(Answering::FormatCapacities);
 
 const GIVE_CAPACITY: Routine = Routine::Answer(Answering::Capacity);
 
@@ -239,29 +239,29 @@ pub fn rule_of(code: u8) -> Known
     ensures { λ r. ⌜ r ≡ ruleOf code ⌝ }
 {
     match code {
-        TEST_UNIT_READY => base(0, ON_DISC, ANY, Field::Nowhere, NOTHING),
-        REZERO_UNIT => base(1, ON_DISC, ANY, Field::Nowhere, NOTHING),
-        REQUEST_SENSE => base(2, ALWAYS, ANY, Field::Byte4, GIVE_SENSE),
-        INQUIRY => base(3, ALWAYS, ANY, Field::Byte4, GIVE_INQUIRY),
-        START_STOP_UNIT => base(4, ATTENDED, Values::Zero(2), Field::Nowhere, MOTOR),
-        PREVENT_REMOVAL => base(5, ATTENDED, Values::Zero(1), Field::Nowhere, NOTHING),
-        READ_FORMAT_CAPACITIES => base(6, ATTENDED, ANY, Field::Bytes7To8, GIVE_CAPACITIES),
-        READ_CAPACITY => base(7, ON_DISC, ANY, Field::Nowhere, GIVE_CAPACITY),
-        READ_10 => base(8, IN_RANGE, ANY, Field::Bytes7To8, READ),
-        WRITE_10 => base(9, STORING, ANY, Field::Bytes7To8, WRITE),
-        SEEK => base(10, IN_RANGE, ANY, Field::Nowhere, NOTHING),
-        WRITE_AND_VERIFY => base(11, STORING, ANY, Field::Bytes7To8, WRITE),
-        VERIFY => base(12, IN_RANGE, ANY, Field::Bytes7To8, NOTHING),
-        MODE_SENSE => base(13, ON_DISC, Values::Page, Field::Bytes7To8, GIVE_MODE),
-        READ_12 => base(14, IN_RANGE, ANY, Field::Bytes6To9, READ),
-        WRITE_12 => base(15, STORING, ANY, Field::Bytes6To9, WRITE),
+        TEST_UNIT_READY => base(0, ASKS_CD, ANY, Field::Nowhere, NOTHING),
+        REZERO_UNIT => base(1, ASKS_CD, ANY, Field::Nowhere, NOTHING),
+        REQUEST_SENSE => base(2, ASKS_NOTHING, ANY, Field::Byte4, GIVE_SENSE),
+        INQUIRY => base(3, ASKS_NOTHING, ANY, Field::Byte4, GIVE_INQUIRY),
+        START_STOP_UNIT => base(4, ASKS_C, Values::ZeroBits(0x02), Field::Nowhere, MOTOR),
+        PREVENT_REMOVAL => base(5, ASKS_C, Values::ZeroBits(0x01), Field::Nowhere, NOTHING),
+        READ_FORMAT_CAPACITIES => base(6, ASKS_C, ANY, Field::Bytes7To8, GIVE_FORMAT_CAPACITIES),
+        READ_CAPACITY => base(7, ASKS_CD, ANY, Field::Nowhere, GIVE_CAPACITY),
+        READ_10 => base(8, ASKS_CDG, ANY, Field::Bytes7To8, READ),
+        WRITE_10 => base(9, ASKS_CDGH, ANY, Field::Bytes7To8, WRITE),
+        SEEK => base(10, ASKS_CDG, ANY, Field::Nowhere, NOTHING),
+        WRITE_AND_VERIFY => base(11, ASKS_CDGH, ANY, Field::Bytes7To8, WRITE),
+        VERIFY => base(12, ASKS_CDG, ANY, Field::Bytes7To8, NOTHING),
+        MODE_SENSE => base(13, ASKS_CD, Values::Page, Field::Bytes7To8, GIVE_MODE),
+        READ_12 => base(14, ASKS_CDG, ANY, Field::Bytes6To9, READ),
+        WRITE_12 => base(15, ASKS_CDGH, ANY, Field::Bytes6To9, WRITE),
         _ => Known::Unknown,
     }
 }
 
 // B fails: the unit number is not 0.
 fn other_unit(packet: &[u8]) -> bool
-    ensures { λ r. ⌜ r ≡ unitB (now (packet .entry)) ⌝ }
+    ensures { λ r. ⌜ r ≡ otherUnitB (now (packet .entry)) ⌝ }
 {
     byte(packet, 1) / 32 != 0
 }
@@ -284,11 +284,11 @@ fn in_mask(packet: &[u8], row: usize) -> bool
 
 // F fails: a bit that has to be zero is set, or there is no such page.
 fn bad_value(values: Values, packet: &[u8]) -> bool
-    ensures { λ r. ⌜ r ≡ valueB values (now (packet .entry)) ⌝ }
+    ensures { λ r. ⌜ r ≡ badValueB values (now (packet .entry)) ⌝ }
 {
     match values {
         Values::Any => false,
-        Values::Zero(bits) => byte(packet, 4) & bits != 0,
+        Values::ZeroBits(bits) => byte(packet, 4) & bits != 0,
         Values::Page => {
             let page = byte(packet, 2) % 64;
             (page != 0x05) & (page != 0x3f)
@@ -298,11 +298,11 @@ fn bad_value(values: Values, packet: &[u8]) -> bool
 
 // F2 fails: the saved values are asked for.
 fn bad_control(values: Values, packet: &[u8]) -> bool
-    ensures { λ r. ⌜ r ≡ controlB values (now (packet .entry)) ⌝ }
+    ensures { λ r. ⌜ r ≡ badControlB values (now (packet .entry)) ⌝ }
 {
     match values {
         Values::Any => false,
-        Values::Zero(_) => false,
+        Values::ZeroBits(_) => false,
         Values::Page => byte(packet, 2) / 64 == 3,
     }
 }

@@ -49,7 +49,16 @@ named-of (Found Protected) = refl
 
 pub failed-sound : (s : State) (f : Failure) → soundB s ≡ true → soundB (failedOf s f) ≡ true
 unfolding soundB failedOf openSoundB
-failed-sound s f e = let p = parts s e in rw (p .low, p .bare, named-of f)
+failed-sound s (Pending PowerOn) e = let p = parts s e in rw (p .low, p .bare, named-of (Pending PowerOn))
+failed-sound s (Pending Change) e = let p = parts s e in rw (p .low, p .bare, named-of (Pending Change))
+failed-sound s (Found fault) e = let p = parts s e in rw (p .low, p .bare, named-of (Found fault))
+
+-- a failure leaves the disc in
+pub failed-disc : (s : State) (f : Failure) → failedOf s f .disc ≡ s .disc
+unfolding failedOf
+failed-disc s (Pending PowerOn) = refl
+failed-disc s (Pending Change) = refl
+failed-disc s (Found fault) = refl
 
 pub passed-sound : (s : State) (motor : Bool) (t : Transfer) → soundB s ≡ true → openSoundB (s .disc) (s .protected) t ≡ true
     → soundB (passedOf s motor t) ≡ true

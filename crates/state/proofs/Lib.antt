@@ -1,3 +1,2 @@
 pub mod Others
-pub mod First
 pub mod Keeps

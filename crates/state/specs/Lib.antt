@@ -1,4 +1,3 @@
-pub mod First
 pub mod Senses
 pub mod States
 pub mod Sound

@@ -30,7 +30,7 @@ senseOf (Found Protected) = triple 0x07 0x27 0x00
 abbrev pub sameB : Sense → Sense → Bool
 sameB a b = eqb (a .0) (b .0) && eqb (a .1) (b .1) && eqb (a .2) (b .2)
 
--- "the triple is 00 00 00 or one of those named"
+-- "the triple is 00 00 00 or one of those named below"
 unfoldable pub namedB : Sense → Bool
 namedB s =
     sameB s noSense

@@ -13,7 +13,7 @@ use Rattle.state.specs.Senses.{namedB}
 unfoldable pub onDiscB : ℕ → DiscAt → Bool
 onDiscB number p = not (eqb number 0) && ltb 0 (p .left) && leb (p .at .0 + p .left) (discBytes number)
 
--- "ends on a block boundary"
+-- "ends on a block boundary"; without a block length there is none
 unfoldable pub endsOnBlockB : ℕ → DiscAt → Bool
 endsOnBlockB number p = not (eqb (blockBytes number) 0) && eqb ((p .at .0 + p .left) % blockBytes number) 0
 
@@ -26,7 +26,7 @@ openSoundB number prot (Read p) = onDiscB number p
 openSoundB number prot (Write p) = onDiscB number p && endsOnBlockB number p && not prot
 
 -- "the disc number is 0 to 4; without a disc protection is off and no disc transfer is open; the triple is 00 00 00 or one of those
--- named; an open transfer .."
+-- named below; an open transfer .."
 unfoldable pub soundB : State → Bool
 soundB s =
     leb (s .disc) 4

@@ -1,5 +1,5 @@
 -- Paper 01, "State": what the drive remembers, and what events and commands make of it.
-use mathlib.Core.Bool.{Bool, true, false, not, _&&_}
+use mathlib.Core.Bool.{Bool, true, false}
 use Prim.Native.Nat.{ℕ}
 use Rattle.state.specs.declared.Sense.{Sense}
 use Rattle.state.specs.declared.State.{State}
@@ -47,22 +47,12 @@ unfoldable pub ejectedOf : State → State
 ejectedOf s =
     stateOf 0 false (s .motor) (s .«power_on») (s .change) (senseAfter (s .sense) (s .transfer)) Closed
 
-abbrev pub reportsPowerOn : Failure → Bool
-reportsPowerOn (Pending PowerOn) = true
-reportsPowerOn (Pending Change) = false
-reportsPowerOn (Found fault) = false
-
-abbrev pub reportsChange : Failure → Bool
-reportsChange (Pending PowerOn) = false
-reportsChange (Pending Change) = true
-reportsChange (Found fault) = false
-
--- "the first check to fail gives the sense", "that one flag is cleared", the transfer is closed
+-- a failed command: its sense, "that one flag is cleared", the transfer closed
 unfoldable pub failedOf : State → Failure → State
-failedOf s f =
-    stateOf (s .disc) (s .protected) (s .motor) (s .«power_on» && not (reportsPowerOn f)) (s .change && not (reportsChange f)) (senseOf f)
-    Closed
+failedOf s (Pending PowerOn) = stateOf (s .disc) (s .protected) (s .motor) false (s .change) (senseOf (Pending PowerOn)) Closed
+failedOf s (Pending Change) = stateOf (s .disc) (s .protected) (s .motor) (s .«power_on») false (senseOf (Pending Change)) Closed
+failedOf s (Found fault) = stateOf (s .disc) (s .protected) (s .motor) (s .«power_on») (s .change) (senseOf (Found fault)) Closed
 
--- "A command that passes sets the sense to 00 00 00"
+-- a passed command: "A command that passes sets the sense to 00 00 00, also INQUIRY."
 unfoldable pub passedOf : State → Bool → Transfer → State
 passedOf s motor transfer = stateOf (s .disc) (s .protected) motor (s .«power_on») (s .change) noSense transfer

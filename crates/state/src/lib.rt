@@ -3,7 +3,7 @@ ghost use mathlib.Core.Path.{_≡_};
 ghost use Prim.Native.Nat.{_+_};
 ghost use lib.Dec.{leb};
 ghost use Rattle.state.specs.Senses.{senseOf, sameB, namedB};
-ghost use Rattle.state.specs.States.{powerOn, insertedOf, ejectedOf, failedOf, passedOf, reportsPowerOn, reportsChange, senseAfter, withTransfer};
+ghost use Rattle.state.specs.States.{powerOn, insertedOf, ejectedOf, failedOf, passedOf, senseAfter, withTransfer};
 ghost use Rattle.state.specs.Sound.{endsOnBlockB, onDiscB, openSoundB, soundB};
 use disc::BytePlace;
 
@@ -187,39 +187,25 @@ pub fn ejected(state: State) -> State
     next
 }
 
-fn reports_power_on(failure: Failure) -> bool
-    ensures { λ r. ⌜ r ≡ reportsPowerOn failure ⌝ }
-{
-    match failure {
-        Failure::Pending(attention) => match attention {
-            Attention::PowerOn => true,
-            Attention::Change => false,
-        },
-        Failure::Found(_) => false,
-    }
-}
-
-fn reports_change(failure: Failure) -> bool
-    ensures { λ r. ⌜ r ≡ reportsChange failure ⌝ }
-{
-    match failure {
-        Failure::Pending(attention) => match attention {
-            Attention::PowerOn => false,
-            Attention::Change => true,
-        },
-        Failure::Found(_) => false,
-    }
-}
-
 // After a failed command: its sense, the one flag that it reports cleared, nothing open.
 pub fn failed(state: State, failure: Failure) -> State
     ensures { λ r. ⌜ r ≡ failedOf state failure ⌝ }
 {
     let sense = sense_of(failure);
     let mut next = with_transfer(state, sense, Transfer::Closed);
-    next.power_on = state.power_on & !reports_power_on(failure);
-    next.change = state.change & !reports_change(failure);
-    next
+    match failure {
+        Failure::Pending(attention) => match attention {
+            Attention::PowerOn => {
+                next.power_on = false;
+                next
+            }
+            Attention::Change => {
+                next.change = false;
+                next
+            }
+        },
+        Failure::Found(_) => next,
+    }
 }
 
 // After a passed command: no sense, its motor flag and its transfer.
@@ -268,7 +254,7 @@ fn open_soundly(number: u8, protected: bool, transfer: Transfer) -> bool
 {
     match transfer {
         Transfer::Closed => true,
-        Transfer::Answer(p) => (0 < p.left) & ends_within(p.at, p.left, 1024),
+        Transfer::Answer(p) => (0 < p.left) & ends_within(p.at, p.left, disc::BUFFER_BYTES),
         Transfer::Read(p) => on_disc(number, p),
         Transfer::Write(p) => on_disc(number, p) & ends_on_block(number, p) & !protected,
     }

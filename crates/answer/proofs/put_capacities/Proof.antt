@@ -8,13 +8,13 @@ returns : tie.Need-returns
 unfolding capacitiesData
 returns c =
     let answer = c .before .before .before .before .before in
-    rw (eq-eqb _ _ (answer .before .if1 .taken), ← answer .unformatted-data .ensures) (c .before .before .put .ensures)
+    rw (eq-eqb _ _ (answer .before .if1 .taken), ← answer .without-disc-data .ensures) (c .before .before .put .ensures)
 
 returns-2 : tie.Need-returns-2
 unfolding capacitiesData
 returns-2 c =
     let answer = c .before .before .before .before .before in
-    rw (ne-eqb _ _ (answer .before .if1 .left), ← answer .formatted-data .ensures) (c .before .before .put2 .ensures)
+    rw (ne-eqb _ _ (answer .before .if1 .left), ← answer .with-disc-data .ensures) (c .before .before .put2 .ensures)
 
 pub put-capacities-spec : {M : Type 1} → statement M
 put-capacities-spec =

@@ -4,15 +4,15 @@ use Prim.Native.Nat.{_≤_, _-_}
 use native.Mathlib.Omega.{arith}
 use lib.ListN.{drop}
 use borrow.Author.Needs.{needs}
-use Rattle.state.proofs.First.{fails-here, holds-here, none-fails}
+use Rattle.packet.proofs.First.{fails-here, holds-here, none-fails}
 use Rattle.drive.specs.declared.Test.{Test}
 use Rattle.drive.specs.declared.House.the-variants.{Accepted}
-use Rattle.drive.specs.House.{failsB, refusing, firstNumber}
+use Rattle.drive.specs.House.{failsB, refusing, firstRefusal}
 use Rattle.drive.proofs.first_refusal.Statement.{statement}
 use Rattle.drive.proofs.first_refusal.Tie as tie
 
 abbrev Inv-loop : tie.InvT-loop
-Inv-loop tests i₀ i = (i ≤ 4) × (firstNumber tests ≡ firstNumber (drop i tests))
+Inv-loop tests i₀ i = (i ≤ 4) × (firstRefusal tests ≡ firstRefusal (drop i tests))
 
 abbrev μ-loop : tie.MeasureT-loop
 μ-loop tests i₀ i = 4 - i

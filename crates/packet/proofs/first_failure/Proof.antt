@@ -4,7 +4,7 @@ use Prim.Native.Nat.{_≤_, _-_}
 use native.Mathlib.Omega.{arith}
 use lib.ListN.{drop}
 use borrow.Author.Needs.{needs}
-use Rattle.state.proofs.First.{fails-here, holds-here, none-fails}
+use Rattle.packet.proofs.First.{fails-here, holds-here, none-fails}
 use Rattle.state.specs.declared.Attention.the-variants.{PowerOn}
 use Rattle.state.specs.declared.Failure.the-variants.{Pending}
 use Rattle.packet.specs.declared.Check.{Check}

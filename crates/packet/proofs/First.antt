@@ -8,7 +8,7 @@ use borrow.Author.Tests.{not-true}
 use lib.ListN.{length, getD, drop, drop-of-length-le}
 use lib.Seq.{drop-cons}
 use Rattle.disc.proofs.Truth.{both}
-use Rattle.state.specs.First.{first}
+use Rattle.packet.specs.First.{first}
 
 module _ {A B : Type 0} (fails : A → Bool) (gives : A → B) (xs : List A) (other : B) (i : ℕ) where
   pub fails-here : (d : A) → i < length xs → fails (getD xs i d) ≡ true → first fails gives (drop i xs) other ≡ gives (getD xs i d)

@@ -1,11 +1,11 @@
 use borrow.Author.Needs.{needs}
-use Rattle.answer.specs.Answers.{formattedData}
-use Rattle.answer.proofs.formatted_data.Statement.{statement}
-use Rattle.answer.proofs.formatted_data.Tie as tie
+use Rattle.answer.specs.Answers.{withDiscData}
+use Rattle.answer.proofs.with_disc_data.Statement.{statement}
+use Rattle.answer.proofs.with_disc_data.Tie as tie
 
-pub formatted-data-spec : {M : Type 1} → statement M
-unfolding formattedData
-formatted-data-spec =
+pub with-disc-data-spec : {M : Type 1} → statement M
+unfolding withDiscData
+with-disc-data-spec =
     tie.close
     (tie.spec
     (λ _ _. tt)
