@@ -1,6 +1,6 @@
 -- Paper 01, "Answers from the block buffer": the five answers, whole.
 use mathlib.Core.Bool.{Bool, cond}
-use mathlib.Core.List.{List, [], _∷_, _++_}
+use mathlib.Core.List.{List, _∷_, _++_}
 use Prim.Native.Nat.{ℕ, _-_}
 use lib.Dec.{eqb}
 use Rattle.disc.specs.Formats.{formatOf, heads}

@@ -2,13 +2,11 @@
 use mathlib.Core.Path.{_≡_, refl}
 use mathlib.Core.Bool.{Bool, true, _&&_}
 use mathlib.Core.List.{List, [], _∷_}
-use Prim.Native.Nat.{ℕ, zero, suc, _*_, _≤_, _<_}
+use Prim.Native.Nat.{ℕ, zero, suc, _*_, _<_}
 use native.Mathlib.Nat.{le-of-suc-le-suc, not-suc-le-zero}
-use native.Mathlib.Omega.{arith}
 use borrow.Author.Tests.{leb-true, ltb-true, eqb-true}
 use lib.Dec.{eqb, leb, ltb}
 use lib.ListN.{length, getD}
-use Rattle.disc.specs.declared.Format.{Format}
 use Rattle.disc.specs.Formats.{noFormat, discs, formats, formatOf, heads, bufferBytes, blockBytes, runBytes, discBytes}
 use Rattle.disc.specs.Theorems.{DiscBytesColumn, Geometry, BlockFits, BlockHolds}
 use Rattle.disc.proofs.Truth.{both}

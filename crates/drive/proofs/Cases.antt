@@ -1,5 +1,4 @@
 -- The marked cases at the edges, by computation. Assumes nothing.
-use mathlib.Core.Path.{refl}
 use Rattle.disc.specs.Formats.{formatOf, blockBytes, runBytes, discBytes, placeOf}
 use Rattle.disc.specs.Masks.{masks, maskRow}
 use Rattle.state.specs.Senses.{namedB}

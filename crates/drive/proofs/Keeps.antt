@@ -1,11 +1,11 @@
 -- Every entry keeps soundness. Assumes nothing.
-use mathlib.Core.Path.{_≡_, refl, sym, _∙_, ap}
-use mathlib.Core.Bool.{Bool, true, false, cond, not, _&&_, _||_}
+use mathlib.Core.Path.{_≡_, refl, ap}
+use mathlib.Core.Bool.{Bool, true, false, cond, _&&_}
 use mathlib.Core.List.{List}
-use Prim.Native.Nat.{ℕ, _+_, _*_, _/_, _%_, _≤_, _<_}
+use Prim.Native.Nat.{ℕ, _+_, _*_, _/_, _%_, _≤_}
 use native.Mathlib.Nat.{add-mul, mul-le-mul-right, mul-mod-left, mul-zero}
 use native.Mathlib.Omega.{arith}
-use borrow.Author.Tests.{leb-true, ltb-false, eqb-true, eqb-false, not-false, le-leb, lt-ltb, ne-eqb}
+use borrow.Author.Tests.{ltb-false, eqb-true, eqb-false, not-false, le-leb, lt-ltb, ne-eqb}
 use lib.Dec.{eqb, leb, ltb}
 use lib.ListN.{length}
 use Rattle.disc.specs.Formats.{bufferBytes, formatOf, blockBytes, runBytes, discBytes, placeOf}
@@ -29,7 +29,7 @@ use Rattle.packet.specs.declared.Verdict.the-variants.{Passes, Fails}
 use Rattle.packet.specs.declared.Routine.{Routine}
 use Rattle.packet.specs.declared.Routine.the-variants.{Nothing, Motor, Answer, Read, Write}
 use Rattle.packet.proofs.Passing.{passesB, passing}
-use Rattle.packet.proofs.Table.{opensB, writesB, Guarded, guarded}
+use Rattle.packet.proofs.Table.{opensB, writesB, guarded}
 use Rattle.answer.specs.Giving.{giveOf}
 use Rattle.answer.proofs.Lengths.{give-count}
 use Rattle.drive.specs.House.{firstRefusal, commandTests, insertTests, ejectTests}

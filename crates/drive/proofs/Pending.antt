@@ -1,15 +1,14 @@
 -- While a change is pending, the second command that C is asked of reports it at the latest. Assumes nothing.
 use mathlib.Core.Path.{_≡_, refl, sym, _∙_, ap}
-use mathlib.Core.Bool.{Bool, true, false, cond, not, _&&_, _||_, or-true, and-true, true≢false, false≢true}
+use mathlib.Core.Bool.{Bool, true, false, cond, not, _&&_, or-true, and-true, true≢false, false≢true}
 use mathlib.Core.List.{List, [], _∷_}
 use Prim.Native.Nat.{ℕ, suc, _/_, _≤_}
 use native.Mathlib.Omega.{arith}
 use borrow.Author.Tests.{eq-eqb, eqb-true, not-true, not-false}
 use lib.Dec.{eqb, lit≤}
 use lib.ListN.{length}
-use Rattle.disc.specs.Formats.{bufferBytes, discBytes}
+use Rattle.disc.specs.Formats.{discBytes}
 use Rattle.disc.proofs.Truth.{both}
-use Rattle.packet.specs.First.{first}
 use Rattle.state.specs.States.{failedOf, passedOf}
 use Rattle.state.specs.declared.State.{State}
 use Rattle.state.specs.declared.Attention.the-variants.{PowerOn, Change}
@@ -19,7 +18,7 @@ use Rattle.state.specs.declared.Transfer.{Transfer}
 use Rattle.state.proofs.Keeps.{failed-disc}
 use Rattle.packet.specs.Fields.{byteAt, lengthOf}
 use Rattle.packet.specs.Rules.{ruleOf}
-use Rattle.packet.specs.Checks.{otherUnitB, failsB, failing, firstOf, checksOf, verdictOf, verdict}
+use Rattle.packet.specs.Checks.{otherUnitB, firstOf, checksOf, verdict}
 use Rattle.packet.specs.declared.Check.{Check}
 use Rattle.packet.specs.declared.Rule.{Rule}
 use Rattle.packet.specs.declared.Known.{Known}
@@ -29,7 +28,6 @@ use Rattle.packet.specs.declared.Verdict.the-variants.{Passes, Fails}
 use Rattle.packet.specs.declared.Routine.{Routine}
 use Rattle.packet.specs.declared.Routine.the-variants.{Nothing, Motor, Answer, Read, Write}
 use Rattle.packet.proofs.Table.{freeB, attended}
-use Rattle.answer.specs.Giving.{giveOf}
 use Rattle.answer.proofs.Lengths.{give-length}
 use Rattle.drive.specs.House.{commandTests}
 use Rattle.drive.specs.World.{World, world}

@@ -6,10 +6,9 @@ use lib.ListN.{getD}
 use Rattle.drive.specs.declared.House.{House}
 use Rattle.drive.specs.declared.House.the-variants.{Accepted, PacketLength, Unsound, BufferLength, DiscLength, DiscIn, NoDiscIn, NoSuchDisc}
 use Rattle.drive.specs.declared.EventReply.{EventReply}
-use Rattle.drive.specs.declared.CommandReply.{CommandReply}
 use Rattle.drive.specs.House.{numberOf}
 use Rattle.drive.specs.Events.{Happened, happened}
-use Rattle.drive.specs.Commands.{Commanded, commanded}
+use Rattle.drive.specs.Commands.{Commanded}
 use Rattle.drive.specs.Theorems.{OnePowerOn, OneInsertion, OneEjection, OneCommand}
 
 -- the houses by number

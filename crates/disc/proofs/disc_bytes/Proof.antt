@@ -1,4 +1,3 @@
-use borrow.Author.Needs.{needs}
 use Rattle.disc.specs.Formats.{discBytes}
 use Rattle.disc.proofs.disc_bytes.Statement.{statement}
 use Rattle.disc.proofs.disc_bytes.Tie as tie

@@ -1,4 +1,3 @@
-use borrow.Author.Needs.{needs}
 use Rattle.disc.specs.Formats.{placeOf}
 use Rattle.disc.proofs.place_of.Statement.{statement}
 use Rattle.disc.proofs.place_of.Tie as tie

@@ -4,7 +4,6 @@ use Rattle.disc.specs.Formats.{bufferBytes, runBytes}
 use Rattle.disc.proofs.Table.{block-fits}
 use Rattle.disc.proofs.run_bytes.Statement.{statement}
 use Rattle.disc.proofs.run_bytes.Tie as tie
-use borrow.Author.Needs.{needs}
 use Prim.Native.Nat.{_≤_}
 
 mul-result : tie.Need-mul-result

@@ -4,7 +4,6 @@ use Prim.Native.Nat.{_≤_, _-_}
 use native.Mathlib.Omega.{arith}
 use borrow.Author.Needs.{needs}
 use borrow.Author.Tests.{eq-eqb, ne-eqb}
-use Rattle.disc.specs.Masks.{maskRow}
 use Rattle.packet.specs.Checks.{bitsB, belowB, inMaskB}
 use Rattle.packet.proofs.Below.{one-more, one-fails}
 use Rattle.packet.proofs.in_mask.Statement.{statement}
@@ -39,8 +38,10 @@ loop-again c =
 returns-2 : tie.Need-returns-2 Inv-loop μ-loop
 unfolding inMaskB
 returns-2 c =
+    let masks = c .before .before .mask-row in
     let e : c .before .loop .i ≡ 12 = omega arith in
-    rw (← c .before .before .mask-row .ensures) (sym (rw e at (c .before .loop .inv .1)))
+    let all : belowB (bitsB (c .before .before .before .before .args .packet .now) (masks .result)) 12 ≡ true = rw e at (c .before .loop .inv .1) in
+    rw (← masks .ensures, all)
 
 pub in-mask-spec : {M : Type 1} → statement M
 in-mask-spec =
