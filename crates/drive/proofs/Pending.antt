@@ -2,21 +2,19 @@
 use mathlib.Core.Path.{_≡_, refl, sym, _∙_, ap}
 use mathlib.Core.Bool.{Bool, true, false, cond, not, _&&_, or-true, and-true, true≢false, false≢true}
 use mathlib.Core.List.{List, [], _∷_}
-use Prim.Native.Nat.{ℕ, suc, _/_, _≤_}
+use Prim.Native.Nat.{ℕ, suc, _≤_}
 use native.Mathlib.Omega.{arith}
 use borrow.Author.Tests.{eq-eqb, eqb-true, not-true, not-false}
 use lib.Dec.{eqb, lit≤}
 use lib.ListN.{length}
 use Rattle.disc.specs.Formats.{discBytes}
 use Rattle.disc.proofs.Truth.{both}
-use Rattle.state.specs.States.{failedOf, passedOf}
+use Rattle.state.specs.States.{failedOf}
 use Rattle.state.specs.declared.State.{State}
 use Rattle.state.specs.declared.Attention.the-variants.{PowerOn, Change}
 use Rattle.state.specs.declared.Failure.{Failure}
-use Rattle.state.specs.declared.Failure.the-variants.{Pending, Found}
-use Rattle.state.specs.declared.Transfer.{Transfer}
-use Rattle.state.proofs.Keeps.{failed-disc}
-use Rattle.packet.specs.Fields.{byteAt, lengthOf}
+use Rattle.state.specs.declared.Failure.the-variants.{Pending}
+use Rattle.packet.specs.Fields.{byteAt}
 use Rattle.packet.specs.Rules.{ruleOf}
 use Rattle.packet.specs.Checks.{otherUnitB, firstOf, checksOf, verdict}
 use Rattle.packet.specs.declared.Check.{Check}
@@ -24,77 +22,14 @@ use Rattle.packet.specs.declared.Rule.{Rule}
 use Rattle.packet.specs.declared.Known.{Known}
 use Rattle.packet.specs.declared.Known.the-variants.{Unknown, Base}
 use Rattle.packet.specs.declared.Verdict.{Verdict}
-use Rattle.packet.specs.declared.Verdict.the-variants.{Passes, Fails}
-use Rattle.packet.specs.declared.Routine.{Routine}
-use Rattle.packet.specs.declared.Routine.the-variants.{Nothing, Motor, Answer, Read, Write}
+use Rattle.packet.specs.declared.Verdict.the-variants.{Fails}
 use Rattle.packet.proofs.Table.{freeB, attended}
-use Rattle.answer.proofs.Lengths.{give-length}
 use Rattle.drive.specs.House.{commandTests}
 use Rattle.drive.specs.World.{World, world}
-use Rattle.drive.specs.Commands.{routineOf, performedOf, obeyedOf, commandHouse, commandOf}
+use Rattle.drive.specs.Commands.{obeyedOf, commandHouse, commandOf}
 use Rattle.drive.specs.Theorems.{Ready, baseB, attendedB, attendedCount, reportsB, someReportsB, SecondAtLatest}
 use Rattle.drive.proofs.Houses.{noneB, let-pass}
-use Rattle.drive.proofs.Keeps.{command-keeps}
-
-abbrev attentionB : Failure → Bool
-attentionB (Pending a) = true
-attentionB (Found f) = false
-
-abbrev pendingB : Verdict → Bool
-pendingB (Fails f) = attentionB f
-pendingB (Passes rule) = false
-
--- ---- what a command keeps
-
--- the disc's number, and the lengths of what is lent
-record Lent (w v : World) : Type 0 where
-  number : v .state .disc ≡ w .state .disc
-  buffer : length (v .buffer) ≡ length (w .buffer)
-  disc : v .disc ≡ w .disc
-
-record Flags (w v : World) : Type 0 where
-  power : v .state .«power_on» ≡ w .state .«power_on»
-  change : v .state .change ≡ w .state .change
-
-module _ (w : World) (p : List ℕ) where
-  by-passing : (motor : Bool) (t : Transfer) (b : List ℕ) → length b ≡ length (w .buffer)
-      → Lent w (world (passedOf (w .state) motor t) b (w .disc)) × Flags w (world (passedOf (w .state) motor t) b (w .disc))
-  unfolding passedOf
-  by-passing motor t b e = (record { number = refl; buffer = e; disc = refl }, record { power = refl; change = refl })
-
-  routine-keeps : (n : ℕ) (r : Routine)
-      → let a = routineOf r (w .state) p n (w .buffer) in
-      Lent w (world (a .state) (a .buffer) (w .disc)) × Flags w (world (a .state) (a .buffer) (w .disc))
-  routine-keeps n Nothing = by-passing _ _ _ refl
-  routine-keeps n Motor = by-passing _ _ _ refl
-  routine-keeps n (Answer a) = by-passing _ _ _ (give-length a (w .state) (byteAt p 2 / 64) n (w .buffer))
-  routine-keeps n Read = by-passing _ _ _ refl
-  routine-keeps n Write = by-passing _ _ _ refl
-
-  obeyed-lent : (v : Verdict) → Lent w (obeyedOf v w p .world)
-  unfolding performedOf
-  obeyed-lent (Fails f) = record { number = failed-disc (w .state) f; buffer = refl; disc = refl }
-  obeyed-lent (Passes rule) = routine-keeps (lengthOf (rule .length) p) (rule .routine) .0
-
-  obeyed-flags : (v : Verdict) → pendingB v ≡ false → Flags w (obeyedOf v w p .world)
-  unfolding failedOf performedOf
-  obeyed-flags (Fails (Pending a)) e = absurd (true≢false e)
-  obeyed-flags (Fails (Found f)) e = record { power = refl; change = refl }
-  obeyed-flags (Passes rule) e = routine-keeps (lengthOf (rule .length) p) (rule .routine) .1
-
-pub ready-next : (w : World) (p : List ℕ) → Ready w → Ready (commandOf w p .world)
-unfolding commandOf
-ready-next w p r = here (noneB (commandHouse w p)) refl
-  where
-    here : (b : Bool) → noneB (commandHouse w p) ≡ b → Ready (commandOf w p .world)
-    here false q = rw q r
-    here true q =
-        let kept = obeyed-lent w p (verdict (w .state) p) in
-        record {
-          sound = command-keeps w p (r .sound);
-          buffer = rw q (kept .buffer ∙ r .buffer);
-          disc = rw (q, kept .disc, kept .number) (r .disc);
-        }
+use Rattle.drive.proofs.Kept.{attentionB, pendingB, obeyed-flags, ready-next}
 
 -- ---- which verdicts are a pending attention
 
@@ -136,7 +71,7 @@ module _ (s : State) (p : List ℕ) (rule : Rule) (known : ruleOf (byteAt p 0) �
 -- ---- the run
 
 -- a packet of 12 bytes is let pass where the world is ready
-let-in : (w : World) (p : List ℕ) → Ready w → length p ≡ 12 → commandOf w p ≡ obeyedOf (verdict (w .state) p) w p
+pub let-in : (w : World) (p : List ℕ) → Ready w → length p ≡ 12 → commandOf w p ≡ obeyedOf (verdict (w .state) p) w p
 unfolding commandOf commandTests
 let-in w p r long = rw (long, r .sound, r .buffer, r .disc, eq-eqb (discBytes (w .state .disc)) (discBytes (w .state .disc)) refl)
 

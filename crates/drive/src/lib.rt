@@ -2,7 +2,7 @@
 ghost use mathlib.Core.Path.{_≡_};
 ghost use Rattle.state.specs.States.{powerOn};
 ghost use Rattle.drive.specs.House.{numberOf, firstRefusal, commandTests, insertTests, ejectTests};
-ghost use Rattle.drive.specs.Events.{happened, insertOf, ejectOf};
+ghost use Rattle.drive.specs.Events.{happened, unlessRefused, insertOf, ejectOf};
 ghost use Rattle.drive.specs.World.{world};
 ghost use Rattle.drive.specs.Commands.{openedOf, spanOf, after, performedOf, commanded, commandOf};
 use disc::BlockAddress;
@@ -89,21 +89,27 @@ fn insert_house(state: State, number: u8, disc: usize) -> House
     ])
 }
 
-pub fn insert(state: State, number: u8, protected: bool, disc: &[u8]) -> EventReply
-    ensures { λ r. ⌜ happened r ≡ insertOf state number protected (now (disc .entry)) ⌝ }
+// The reply to an event: a refusal leaves the state.
+fn unless_refused(house: House, state: State, next: State) -> EventReply
+    ensures { λ r. ⌜ happened r ≡ unlessRefused (numberOf house) state next ⌝ }
 {
-    let house = insert_house(state, number, disc.len());
     if number_of(house) != 0 {
         return EventReply {
             house: house,
             state: state,
         };
     }
-    let next = state::inserted(state, number, protected);
     EventReply {
         house: house,
         state: next,
     }
+}
+
+pub fn insert(state: State, number: u8, protected: bool, disc: &[u8]) -> EventReply
+    ensures { λ r. ⌜ happened r ≡ insertOf state number protected (now (disc .entry)) ⌝ }
+{
+    let house = insert_house(state, number, disc.len());
+    unless_refused(house, state, state::inserted(state, number, protected))
 }
 
 fn eject_house(state: State) -> House
@@ -120,18 +126,7 @@ fn eject_house(state: State) -> House
 pub fn eject(state: State) -> EventReply
     ensures { λ r. ⌜ happened r ≡ ejectOf state ⌝ }
 {
-    let house = eject_house(state);
-    if number_of(house) != 0 {
-        return EventReply {
-            house: house,
-            state: state,
-        };
-    }
-    let next = state::ejected(state);
-    EventReply {
-        house: house,
-        state: next,
-    }
+    unless_refused(eject_house(state), state, state::ejected(state))
 }
 
 fn command_house(state: State, packet: usize, buffer: usize, disc: usize) -> House
