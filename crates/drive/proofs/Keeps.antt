@@ -32,12 +32,12 @@ use Rattle.packet.proofs.Passing.{passesB, passing}
 use Rattle.packet.proofs.Table.{opensB, writesB, guarded}
 use Rattle.answer.specs.Giving.{giveOf}
 use Rattle.answer.proofs.Lengths.{give-count}
-use Rattle.drive.specs.House.{firstRefusal, commandTests, insertTests, ejectTests}
+use Rattle.drive.specs.House.{firstRefusal, insertTests, ejectTests}
 use Rattle.drive.specs.Events.{insertOf, ejectOf}
 use Rattle.drive.specs.World.{World}
 use Rattle.drive.specs.Commands.{openedOf, spanOf, routineOf, performedOf, obeyedOf, commandHouse, commandOf}
 use Rattle.drive.specs.Theorems.{PowerOnSound, InsertKeeps, EjectKeeps, CommandKeeps}
-use Rattle.drive.proofs.Houses.{noneB, let-pass}
+use Rattle.drive.proofs.Houses.{noneB, let-pass, was-ready}
 
 pub power-on-sound : PowerOnSound
 unfolding soundB namedB openSoundB
@@ -50,9 +50,10 @@ insert-keeps s number prot disc e = here (noneB (firstRefusal (insertTests s num
     here : (b : Bool) → noneB (firstRefusal (insertTests s number (length disc))) ≡ b → soundB (cond b (insertedOf s number prot) s) ≡ true
     here false q = e
     here true q =
-        let clear = let-pass (insertTests s number (length disc)) refl q in
-        let (none, above) = neither (eqb number 0) (ltb 4 number) (clear .1 .1 .0) in
-        inserted-sound s number prot (eqb-true (s .disc) 0 (not-false (eqb (s .disc) 0) (clear .1 .0))) (eqb-false number 0 none)
+        let test5 = let-pass (insertTests s number (length disc)) refl q .1 in
+        let test7 = test5 .1 in
+        let (none, above) = neither (eqb number 0) (ltb 4 number) (test7 .0) in
+        inserted-sound s number prot (eqb-true (s .disc) 0 (not-false (eqb (s .disc) 0) (test5 .0))) (eqb-false number 0 none)
         (ltb-false 4 number above) e
 
 pub eject-keeps : EjectKeeps
@@ -122,16 +123,16 @@ module _ (s : State) (p buffer : List ℕ) (sound : soundB s ≡ true) (room : l
 
   performed-sound : (code : ℕ) (rule : Rule) → ruleOf code ≡ Base rule → passesB (firstOf (checksOf s rule p) rule) ≡ true
       → soundB (performedOf s rule p buffer .state) ≡ true
-  unfolding performedOf checksOf
+  unfolding performedOf
   performed-sound code rule known passes =
       let holds = passing s rule p passes .0 in
       let guard = guarded code rule known in
       let r = rule .routine in
       let n = lengthOf (rule .length) p in
       routine-sound n r
-      (implies (opensB r) (rule .asked .disc) (eqb (s .disc) 0) (guard .disc) (holds .1 .1 .1 .0))
-      (implies (opensB r) (rule .asked .range) (pastEndB (s .disc) (addressOf p) n) (guard .range) (holds .1 .1 .1 .1 .1 .1 .1 .0))
-      (implies (writesB r) (rule .asked .unprotected) (s .protected) (guard .unprotected) (holds .1 .1 .1 .1 .1 .1 .1 .1 .0))
+      (implies (opensB r) (rule .asked .disc) (eqb (s .disc) 0) (guard .disc) (holds .disc))
+      (implies (opensB r) (rule .asked .range) (pastEndB (s .disc) (addressOf p) n) (guard .range) (holds .range))
+      (implies (writesB r) (rule .asked .unprotected) (s .protected) (guard .unprotected) (holds .unprotected))
 
 obeyed-sound : (w : World) (p : List ℕ) → soundB (w .state) ≡ true → length (w .buffer) ≤ bufferBytes → (k : Known) → ruleOf (byteAt p 0) ≡ k
     → (v : Verdict) → verdictOf k (w .state) p ≡ v → soundB (obeyedOf v w p .world .state) ≡ true
@@ -142,13 +143,12 @@ obeyed-sound w p sound room (Base own) known (Passes rule) e =
     rw same at (performed-sound (w .state) p (w .buffer) sound room (byteAt p 0) own known (ap passesB e))
 
 pub command-keeps : CommandKeeps
-unfolding commandOf commandTests verdict
+unfolding commandOf verdict
 command-keeps w p sound = here (noneB (commandHouse w p)) refl
   where
     here : (b : Bool) → noneB (commandHouse w p) ≡ b
         → soundB (cond b (obeyedOf (verdict (w .state) p) w p) (record { house = commandHouse w p; passed = false; world = w }) .world .state) ≡ true
     here false q = sound
     here true q =
-        let clear = let-pass (commandTests (w .state) (length p) (length (w .buffer)) (length (w .disc))) refl q in
-        let room = eqb-true (length (w .buffer)) bufferBytes (not-false (eqb (length (w .buffer)) bufferBytes) (clear .1 .1 .0)) in
+        let room = was-ready w p q .1 .buffer in
         obeyed-sound w p sound (omega arith) (ruleOf (byteAt p 0)) refl (verdict (w .state) p) refl

@@ -4,10 +4,9 @@ use mathlib.Core.Bool.{Bool, true, false, cond, not, _&&_, or-true, and-true, tr
 use mathlib.Core.List.{List, [], _∷_}
 use Prim.Native.Nat.{ℕ, suc, _≤_}
 use native.Mathlib.Omega.{arith}
-use borrow.Author.Tests.{eq-eqb, eqb-true, not-true, not-false}
+use borrow.Author.Tests.{eqb-true, not-true}
 use lib.Dec.{eqb, lit≤}
 use lib.ListN.{length}
-use Rattle.disc.specs.Formats.{discBytes}
 use Rattle.disc.proofs.Truth.{both}
 use Rattle.state.specs.States.{failedOf}
 use Rattle.state.specs.declared.State.{State}
@@ -24,11 +23,10 @@ use Rattle.packet.specs.declared.Known.the-variants.{Unknown, Base}
 use Rattle.packet.specs.declared.Verdict.{Verdict}
 use Rattle.packet.specs.declared.Verdict.the-variants.{Fails}
 use Rattle.packet.proofs.Table.{freeB, attended}
-use Rattle.drive.specs.House.{commandTests}
 use Rattle.drive.specs.World.{World, world}
 use Rattle.drive.specs.Commands.{obeyedOf, commandHouse, commandOf}
 use Rattle.drive.specs.Theorems.{Ready, baseB, attendedB, attendedCount, reportsB, someReportsB, SecondAtLatest}
-use Rattle.drive.proofs.Houses.{noneB, let-pass}
+use Rattle.drive.proofs.Houses.{noneB, let-in, was-ready}
 use Rattle.drive.proofs.Kept.{attentionB, pendingB, obeyed-flags, ready-next}
 
 -- ---- which verdicts are a pending attention
@@ -69,11 +67,6 @@ module _ (s : State) (p : List ℕ) (rule : Rule) (known : ruleOf (byteAt p 0) �
     change-first off on = rw (known, unit, attended (byteAt p 0) rule known, free, off, on)
 
 -- ---- the run
-
--- a packet of 12 bytes is let pass where the world is ready
-pub let-in : (w : World) (p : List ℕ) → Ready w → length p ≡ 12 → commandOf w p ≡ obeyedOf (verdict (w .state) p) w p
-unfolding commandOf commandTests
-let-in w p r long = rw (long, r .sound, r .buffer, r .disc, eq-eqb (discBytes (w .state .disc)) (discBytes (w .state .disc)) refl)
 
 -- a packet that C is asked of
 record Asked (p : List ℕ) : Type 0 where
@@ -138,15 +131,13 @@ module _ (p : List ℕ) (ps : List (List ℕ))
       here false q = rw (e, answers (Pending Change) (change-first (w .state) p (a .rule) (a .known) (a .unit) (a .free) q on))
 
   at-other : attendedB p ≡ false → needed (w .state) ≤ attendedCount ps → someReportsB w (p ∷ ps) ≡ true
-  unfolding commandOf commandTests
+  unfolding commandOf
   at-other e h = here (noneB (commandHouse w p)) refl
     where
       here : (b : Bool) → noneB (commandHouse w p) ≡ b → someReportsB w (p ∷ ps) ≡ true
       here false q = later (rw q on) (rw q h)
       here true q =
-          let clear = let-pass (commandTests (w .state) (length p) (length (w .buffer)) (length (w .disc))) refl q in
-          let long = eqb-true (length p) 12 (not-false (eqb (length p) 12) (clear .0)) in
-          let flags = obeyed-flags w p (verdict (w .state) p) (other (w .state) p long e) in
+          let flags = obeyed-flags w p (verdict (w .state) p) (other (w .state) p (was-ready w p q .0) e) in
           later (rw q (flags .change ∙ on)) (rw (q, flags .power) h)
 
 at-latest : (ps : List (List ℕ)) (w : World) → Ready w → w .state .change ≡ true → needed (w .state) ≤ attendedCount ps → someReportsB w ps ≡ true

@@ -168,7 +168,7 @@ fn performed(state: State, rule: Rule, packet: &[u8], buffer: &mut [u8]) -> Stat
     let field = rule.length;
     let routine = rule.routine;
     let length = packet::length(field, packet);
-    let p = span(state.disc, packet::address(packet), length);
+    let blocks = span(state.disc, packet::address(packet), length);
     match routine {
         Routine::Nothing => state::passed(state, state.motor, Transfer::Closed),
         Routine::Motor => state::passed(state, packet::byte(packet, 4) % 2 == 1, Transfer::Closed),
@@ -178,8 +178,16 @@ fn performed(state: State, rule: Rule, packet: &[u8], buffer: &mut [u8]) -> Stat
             let transfer = opened(left, Transfer::Answer(AnswerAt { at: 0, left: left }));
             state::passed(state, state.motor, transfer)
         }
-        Routine::Read => state::passed(state, state.motor, opened(p.left, Transfer::Read(p))),
-        Routine::Write => state::passed(state, state.motor, opened(p.left, Transfer::Write(p))),
+        Routine::Read => state::passed(
+            state,
+            state.motor,
+            opened(blocks.left, Transfer::Read(blocks)),
+        ),
+        Routine::Write => state::passed(
+            state,
+            state.motor,
+            opened(blocks.left, Transfer::Write(blocks)),
+        ),
     }
 }
 

@@ -28,6 +28,7 @@ stateOf disc prot motor powerOn change sense transfer =
 abbrev pub powerOn : State
 powerOn = stateOf 0 false false true false noSense Closed
 
+-- the same but for sense and transfer
 abbrev pub withTransfer : State → Sense → Transfer → State
 withTransfer s sense transfer = stateOf (s .disc) (s .protected) (s .motor) (s .«power_on») (s .change) sense transfer
 
@@ -51,7 +52,7 @@ ejectedOf s =
 unfoldable pub failedOf : State → Failure → State
 failedOf s (Pending PowerOn) = stateOf (s .disc) (s .protected) (s .motor) false (s .change) (senseOf (Pending PowerOn)) Closed
 failedOf s (Pending Change) = stateOf (s .disc) (s .protected) (s .motor) (s .«power_on») false (senseOf (Pending Change)) Closed
-failedOf s (Found fault) = stateOf (s .disc) (s .protected) (s .motor) (s .«power_on») (s .change) (senseOf (Found fault)) Closed
+failedOf s (Found fault) = withTransfer s (senseOf (Found fault)) Closed
 
 -- a passed command: "A command that passes sets the sense to 00 00 00, also INQUIRY."
 unfoldable pub passedOf : State → Bool → Transfer → State
