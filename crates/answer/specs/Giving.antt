@@ -16,6 +16,10 @@ pub record Filled : Type 0 where
 abbrev pub filled : ℕ → List ℕ → Filled
 filled count buffer = record { count = count; buffer = buffer }
 
+-- the first n bytes of a source are put at the start of a buffer, the rest of it is untouched
+abbrev pub fillOf : ℕ → List ℕ → List ℕ → Filled
+fillOf n source buffer = filled n (take n source ++ drop n buffer)
+
 -- "min(allocation, full size)"; a buffer shorter than that, which the drive never lends, is filled
 abbrev pub shareOf : List ℕ → ℕ → List ℕ → ℕ
 shareOf answer allocation buffer = min (min allocation (length answer)) (length buffer)
@@ -23,9 +27,7 @@ shareOf answer allocation buffer = min (min allocation (length answer)) (length 
 -- "The first min(allocation, full size) bytes are put at the start of the block buffer, the rest of it is untouched"; "Length fields
 -- inside aren't altered by the cut."
 abbrev pub putOf : List ℕ → ℕ → List ℕ → Filled
-putOf answer allocation buffer =
-    filled (shareOf answer allocation buffer)
-    (take (shareOf answer allocation buffer) answer ++ drop (shareOf answer allocation buffer) buffer)
+putOf answer allocation buffer = fillOf (shareOf answer allocation buffer) answer buffer
 
 -- each answer, with the page control where it has one; "REQUEST SENSE first takes the old triple as its answer and shows no pending flag"
 unfoldable pub answerOf : Answering → State → ℕ → List ℕ

@@ -1,6 +1,6 @@
 // The five answers as bytes, and how one is put at the start of the block buffer.
 ghost use mathlib.Core.Path.{_≡_};
-ghost use Prim.Native.Nat.{_-_, min};
+ghost use Prim.Native.Nat.{_-_};
 ghost use mathlib.Core.Bool.{cond};
 ghost use Rattle.answer.specs.Answers.{senseData, inquiryData, capacityData, withDiscData, withoutDiscData, modeData, capacitiesData};
 ghost use Rattle.answer.specs.Giving.{filled, putOf, giveOf};
@@ -122,18 +122,12 @@ pub fn mode_data(number: u8, protected: bool, changeable: bool) -> [u8; 40]
     data
 }
 
-fn least(a: usize, b: usize) -> usize
-    ensures { λ r. ⌜ r ≡ min a b ⌝ }
-{
-    if a < b { a } else { b }
-}
-
 // The first min(allocation, full size) bytes of an answer go to the start of the buffer.
 fn put(answer: &[u8], allocation: usize, buffer: &mut [u8]) -> usize
     ensures { λ r. ⌜ filled r (now (buffer .exit)) ≡ putOf (now (answer .entry)) allocation (now (buffer .entry)) ⌝ }
 {
-    let cut = least(allocation, answer.len());
-    let n = least(cut, buffer.len());
+    let cut = disc::least(allocation, answer.len());
+    let n = disc::least(cut, buffer.len());
     bytes::copy(&answer[..n], buffer)
 }
 

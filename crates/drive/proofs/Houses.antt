@@ -1,4 +1,4 @@
--- What the house tests say of a call that they let pass, and which command they let pass. Assumes nothing.
+-- What the house tests say of a call that they let pass, and which call they let pass. Assumes nothing.
 use mathlib.Core.Path.{_≡_, refl}
 use mathlib.Core.Bool.{Bool, true}
 use mathlib.Core.List.{List}
@@ -11,9 +11,10 @@ use Rattle.state.specs.Sound.{soundB}
 use Rattle.packet.specs.Checks.{verdict}
 use Rattle.packet.proofs.First.{NoneFails, none-failed, barredB}
 use Rattle.drive.specs.declared.Test.{Test}
-use Rattle.drive.specs.House.{failsB, refusing, firstRefusal, commandTests}
+use Rattle.drive.specs.House.{failsB, refusing, firstRefusal, lentTests, commandTests}
 use Rattle.drive.specs.World.{World}
 use Rattle.drive.specs.Commands.{obeyedOf, commandHouse, commandOf}
+use Rattle.drive.specs.Moves.{moveHouse}
 use Rattle.drive.specs.Theorems.{Ready}
 
 abbrev pub noneB : ℕ → Bool
@@ -23,23 +24,39 @@ pub let-pass : (tests : List Test) → barredB failsB refusing noneB tests ≡ t
     → NoneFails failsB refusing noneB tests
 let-pass tests barred none = none-failed failsB refusing noneB tests 0 barred none .0
 
--- the house lets a command pass exactly if its packet has 12 bytes and the world is ready
-pub let-in : (w : World) (p : List ℕ) → Ready w → length p ≡ 12 → commandOf w p ≡ obeyedOf (verdict (w .state) p) w p
-unfolding commandOf commandTests
-let-in w p r long = rw (long, r .sound, r .buffer, r .disc, eq-eqb (discBytes (w .state .disc)) (discBytes (w .state .disc)) refl)
+module _ (w : World) where
+  abbrev lent : List Test
+  lent = lentTests (w .state) (length (w .buffer)) (length (w .disc))
 
-pub was-ready : (w : World) (p : List ℕ) → noneB (commandHouse w p) ≡ true → (length p ≡ 12) × Ready w
-unfolding commandTests
-was-ready w p none =
-    let test1 = let-pass (commandTests (w .state) (length p) (length (w .buffer)) (length (w .disc))) refl none in
-    let test2 = test1 .1 in
-    let test3 = test2 .1 in
-    let test4 = test3 .1 in (
-      eqb-true (length p) 12 (not-false (eqb (length p) 12) (test1 .0)),
+  -- tests 2, 3 and 4 are passed exactly if the world is ready
+  pub ready-in : Ready w → moveHouse w ≡ 0
+  unfolding lentTests
+  ready-in r = rw (r .sound, r .buffer, r .disc, eq-eqb (discBytes (w .state .disc)) (discBytes (w .state .disc)) refl)
+
+  none-ready : NoneFails failsB refusing noneB lent → Ready w
+  unfolding lentTests
+  none-ready test2 =
+      let test3 = test2 .1 in
+      let test4 = test3 .1 in
       record {
         sound = not-false (soundB (w .state)) (test2 .0);
         buffer = eqb-true (length (w .buffer)) bufferBytes (not-false (eqb (length (w .buffer)) bufferBytes) (test3 .0));
         disc =
             eqb-true (length (w .disc)) (discBytes (w .state .disc)) (not-false (eqb (length (w .disc)) (discBytes (w .state .disc))) (test4 .0));
-      },
-    )
+      }
+
+  pub in-ready : noneB (moveHouse w) ≡ true → Ready w
+  unfolding lentTests
+  in-ready none = none-ready (let-pass lent refl none)
+
+  module _ (p : List ℕ) where
+    -- the house lets a command pass exactly if its packet has 12 bytes and the world is ready
+    pub let-in : Ready w → length p ≡ 12 → commandOf w p ≡ obeyedOf (verdict (w .state) p) w p
+    unfolding commandOf commandTests
+    let-in r long = rw (long, ready-in r)
+
+    pub was-ready : noneB (commandHouse w p) ≡ true → (length p ≡ 12) × Ready w
+    unfolding commandTests lentTests
+    was-ready none =
+        let test1 = let-pass (commandTests (w .state) (length p) (length (w .buffer)) (length (w .disc))) refl none in
+        (eqb-true (length p) 12 (not-false (eqb (length p) 12) (test1 .0)), none-ready (test1 .1))

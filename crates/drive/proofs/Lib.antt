@@ -4,3 +4,9 @@ pub mod Keeps
 pub mod Single
 pub mod Kept
 pub mod Pending
+pub mod Blocks
+pub mod Parts
+pub mod Feeding
+pub mod Sharing
+pub mod Pulling
+pub mod Entering

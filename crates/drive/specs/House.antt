@@ -73,9 +73,13 @@ refusal6 s = eqb (s .disc) 0 gives NoDiscIn
 abbrev refusal7 : ℕ → Test
 refusal7 number = eqb number 0 || ltb 4 number gives NoSuchDisc
 
--- what is lent counts by its length
+-- what is lent counts by its length: "feed and pull 2, 3, 4"
+unfoldable pub lentTests : State → ℕ → ℕ → List Test
+lentTests s buffer disc = refusal2 s ∷ refusal3 buffer ∷ refusal4 (s .disc) disc ∷ []
+
+-- a command 1, 2, 3, 4
 unfoldable pub commandTests : State → ℕ → ℕ → ℕ → List Test
-commandTests s packet buffer disc = refusal1 packet ∷ refusal2 s ∷ refusal3 buffer ∷ refusal4 (s .disc) disc ∷ []
+commandTests s packet buffer disc = refusal1 packet ∷ lentTests s buffer disc
 
 -- "Insertion tests 2, 5, 7, 4; ejection 2, 6"
 unfoldable pub insertTests : State → ℕ → ℕ → List Test

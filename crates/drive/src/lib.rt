@@ -1,11 +1,21 @@
 // The box: its entries, each with its house refusals. An entry is answered whatever it is lent.
+mod feeds;
+mod moves;
+mod pulls;
+
 ghost use mathlib.Core.Path.{_≡_};
-ghost use Rattle.state.specs.States.{powerOn};
-ghost use Rattle.drive.specs.House.{numberOf, firstRefusal, commandTests, insertTests, ejectTests};
+ghost use Rattle.state.specs.States.{powerOn, movedOf};
+ghost use Rattle.drive.specs.declared.House.the-variants.{Accepted};
+ghost use Rattle.drive.specs.House.{numberOf, firstRefusal, lentTests, commandTests, insertTests, ejectTests};
 ghost use Rattle.drive.specs.Events.{happened, unlessRefused, insertOf, ejectOf};
 ghost use Rattle.drive.specs.World.{world};
 ghost use Rattle.drive.specs.Commands.{openedOf, spanOf, after, performedOf, commanded, commandOf};
+ghost use Rattle.drive.specs.Places.{Ahead};
+ghost use Rattle.drive.specs.Moves.{moved, furtherOf};
+ghost use Rattle.drive.specs.Feeds.{feedOf};
+ghost use Rattle.drive.specs.Pulls.{pulled, pullOf};
 use disc::BlockAddress;
+use disc::BytePlace;
 use packet::Routine;
 use packet::Rule;
 use packet::Verdict;
@@ -38,6 +48,12 @@ pub struct EventReply {
 pub struct CommandReply {
     pub house: House,
     pub passed: bool,
+    pub state: State,
+}
+
+pub struct MoveReply {
+    pub house: House,
+    pub count: usize,
     pub state: State,
 }
 
@@ -129,15 +145,25 @@ pub fn eject(state: State) -> EventReply
     unless_refused(eject_house(state), state, state::ejected(state))
 }
 
-fn command_house(state: State, packet: usize, buffer: usize, disc: usize) -> House
-    ensures { λ r. ⌜ numberOf r ≡ firstRefusal (commandTests state packet buffer disc) ⌝ }
+// Tests 2, 3 and 4, of a state and of the lengths that are lent.
+fn lent_house(state: State, buffer: usize, disc: usize) -> House
+    ensures { λ r. ⌜ numberOf r ≡ firstRefusal (lentTests state buffer disc) ⌝ }
 {
     first_refusal([
-        Test(packet != 12, House::PacketLength),
         Test(!state::sound(state), House::Unsound),
         Test(buffer != disc::BUFFER_BYTES, House::BufferLength),
         Test(disc != disc::disc_bytes(state.disc), House::DiscLength),
+        PASSED,
     ])
+}
+
+fn command_house(state: State, packet: usize, buffer: usize, disc: usize) -> House
+    ensures { λ r. ⌜ numberOf r ≡ firstRefusal (commandTests state packet buffer disc) ⌝ }
+{
+    if packet != 12 {
+        return House::PacketLength;
+    }
+    lent_house(state, buffer, disc)
 }
 
 // With no byte left a transfer is closed.
@@ -220,5 +246,83 @@ pub fn command(state: State, packet: &[u8], buffer: &mut [u8], disc: &[u8]) -> C
                 state: next,
             }
         }
+    }
+}
+
+// A call that moves nothing.
+fn unmoved(house: House, state: State) -> MoveReply
+    ensures { λ r. ⌜ r ≡ record { house = house; count = 0; state = state } ⌝ }
+{
+    MoveReply {
+        house: house,
+        count: 0,
+        state: state,
+    }
+}
+
+// A call that moved bytes: what is left of the transfer stays open.
+fn onward(state: State, count: usize, left: usize, transfer: Transfer) -> MoveReply
+    ensures { λ r. ⌜ r ≡ record { house = Accepted; count = count; state = movedOf state (openedOf left transfer) } ⌝ }
+{
+    let next = opened(left, transfer);
+    MoveReply {
+        house: House::Accepted,
+        count: count,
+        state: state::moved(state, next),
+    }
+}
+
+// A read or a write, so many bytes further on.
+fn further(from: DiscAt, count: usize) -> DiscAt
+    requires { ⌜ Ahead from count ⌝ }
+    ensures { λ r. ⌜ r ≡ furtherOf from count ⌝ }
+{
+    DiscAt {
+        at: BytePlace(from.at.0 + count),
+        left: from.left - count,
+    }
+}
+
+pub fn feed(state: State, piece: &[u8], buffer: &mut [u8], disc: &mut [u8]) -> MoveReply
+    ensures { λ r. ⌜ moved r (now (buffer .exit)) (now (disc .exit)) ≡ feedOf (world state (now (buffer .entry)) (now (disc .entry))) (now (piece .entry)) ⌝ }
+{
+    let house = lent_house(state, buffer.len(), disc.len());
+    if number_of(house) != 0 {
+        return unmoved(house, state);
+    }
+    let transfer = state.transfer;
+    match transfer {
+        Transfer::Write(from) => {
+            let count = feeds::feed_blocks(piece, from, state.disc, buffer, disc);
+            let next = further(from, count);
+            onward(state, count, next.left, Transfer::Write(next))
+        }
+        _ => unmoved(House::Accepted, state),
+    }
+}
+
+pub fn pull(state: State, out: &mut [u8], buffer: &[u8], disc: &[u8]) -> MoveReply
+    ensures { λ r. ⌜ pulled (moved r (now (buffer .entry)) (now (disc .entry))) (now (out .exit)) ≡ pullOf (world state (now (buffer .entry)) (now (disc .entry))) (now (out .entry)) ⌝ }
+{
+    let house = lent_house(state, buffer.len(), disc.len());
+    if number_of(house) != 0 {
+        return unmoved(house, state);
+    }
+    let transfer = state.transfer;
+    match transfer {
+        Transfer::Answer(from) => {
+            let count = pulls::pull_answer(from, buffer, out);
+            let next = AnswerAt {
+                at: from.at + count,
+                left: from.left - count,
+            };
+            onward(state, count, next.left, Transfer::Answer(next))
+        }
+        Transfer::Read(from) => {
+            let count = pulls::pull_blocks(from, state.disc, disc, out);
+            let next = further(from, count);
+            onward(state, count, next.left, Transfer::Read(next))
+        }
+        _ => unmoved(House::Accepted, state),
     }
 }

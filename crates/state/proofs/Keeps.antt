@@ -14,7 +14,7 @@ use Rattle.state.specs.declared.Failure.the-variants.{Pending, Found}
 use Rattle.state.specs.declared.Transfer.{Transfer}
 use Rattle.state.specs.declared.Transfer.the-variants.{Closed, Answer, Read, Write}
 use Rattle.state.specs.Senses.{senseOf, namedB}
-use Rattle.state.specs.States.{senseAfter, insertedOf, ejectedOf, failedOf, passedOf}
+use Rattle.state.specs.States.{senseAfter, insertedOf, ejectedOf, failedOf, passedOf, movedOf}
 use Rattle.state.specs.Sound.{onDiscB, openSoundB, soundB}
 
 -- the clauses of soundness
@@ -64,6 +64,10 @@ pub passed-sound : (s : State) (motor : Bool) (t : Transfer) → soundB s ≡ tr
     → soundB (passedOf s motor t) ≡ true
 unfolding soundB passedOf namedB
 passed-sound s motor t e opened = let p = parts s e in rw (p .low, p .bare, opened)
+
+pub moved-sound : (s : State) (t : Transfer) → soundB s ≡ true → openSoundB (s .disc) (s .protected) t ≡ true → soundB (movedOf s t) ≡ true
+unfolding soundB movedOf
+moved-sound s t e opened = let p = parts s e in rw (p .low, p .bare, p .named, opened)
 
 -- a transfer that is open without a disc stays sound with one
 with-disc : (number : ℕ) (off prot : Bool) (t : Transfer) → openSoundB 0 off t ≡ true → openSoundB number prot t ≡ true

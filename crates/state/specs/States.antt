@@ -57,3 +57,7 @@ failedOf s (Found fault) = withTransfer s (senseOf (Found fault)) Closed
 -- a passed command: "A command that passes sets the sense to 00 00 00, also INQUIRY."
 unfoldable pub passedOf : State → Bool → Transfer → State
 passedOf s motor transfer = stateOf (s .disc) (s .protected) motor (s .«power_on») (s .change) noSense transfer
+
+-- a feed or a pull: nothing but the transfer changes
+unfoldable pub movedOf : State → Transfer → State
+movedOf s transfer = withTransfer s (s .sense) transfer

@@ -3,7 +3,7 @@ ghost use mathlib.Core.Path.{_≡_};
 ghost use Prim.Native.Nat.{_+_};
 ghost use lib.Dec.{leb};
 ghost use Rattle.state.specs.Senses.{senseOf, sameB, namedB};
-ghost use Rattle.state.specs.States.{powerOn, insertedOf, ejectedOf, failedOf, passedOf, senseAfter, withTransfer};
+ghost use Rattle.state.specs.States.{powerOn, insertedOf, ejectedOf, failedOf, passedOf, movedOf, senseAfter, withTransfer};
 ghost use Rattle.state.specs.Sound.{endsOnBlockB, onDiscB, openSoundB, soundB};
 use disc::BytePlace;
 
@@ -216,6 +216,14 @@ pub fn passed(state: State, motor: bool, transfer: Transfer) -> State
     let mut next = with_transfer(state, sense, transfer);
     next.motor = motor;
     next
+}
+
+// After bytes have moved: the same but for the transfer.
+pub fn moved(state: State, transfer: Transfer) -> State
+    ensures { λ r. ⌜ r ≡ movedOf state transfer ⌝ }
+{
+    let sense = state.sense;
+    with_transfer(state, sense, transfer)
 }
 
 // `at + left <= limit`, with no sum that could wrap.

@@ -1,18 +1,11 @@
-use mathlib.Core.Path.{_≡_, _∙_}
-use native.Mathlib.Nat.{le-refl}
+use mathlib.Core.Path.{_≡_}
 use native.Mathlib.Omega.{arith}
-use lib.ListN.{length, take, length-take}
-use lib.Seq.{take-take}
+use lib.ListN.{length-take}
 use borrow.Author.Needs.{needs}
 use Rattle.answer.specs.Giving.{shareOf}
+use Rattle.answer.proofs.Filling.{fill-start}
 use Rattle.answer.proofs.put.Statement.{statement}
 use Rattle.answer.proofs.put.Tie as tie
-
-slice-aggregate-copy : tie.Need-slice-aggregate-copy
-slice-aggregate-copy c = simp length-take (omega arith)
-
-copy-requires : tie.Need-copy-requires
-copy-requires c κs = simp length-take (omega arith)
 
 returns : tie.Need-returns
 returns c =
@@ -20,10 +13,8 @@ returns c =
     let least2 = c .before .before .before .before .before in
     let x = least2 .before .before .before .before .args in
     let n = least2 .least2 .result in
-    let a = x .answer .now in
-    let cut : length (take n a) ≡ n = simp length-take (omega arith) in
-    let share : n ≡ shareOf a (x .allocation) (x .buffer .now) = omega arith in
-    rw (copy .ensures .0 ∙ cut ∙ share, copy .ensures .1, cut, take-take n n a (le-refl n), share)
+    let share : shareOf (x .answer .now) (x .allocation) (x .buffer .now) ≡ n = omega arith in
+    rw (copy .ensures .0, copy .ensures .1, share) (fill-start n (x .answer .now) (x .buffer .now) (omega arith))
 
 pub put-spec : {M : Type 1} → statement M
 put-spec =
@@ -31,7 +22,7 @@ put-spec =
     (tie.spec
     (λ _ _. tt)
     (λ _ _. tt)
-    slice-aggregate-copy
-    copy-requires
+    (λ c. simp length-take (omega arith))
+    (λ c _. simp length-take (omega arith))
     (λ c. search needs)
     returns)

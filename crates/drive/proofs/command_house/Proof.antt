@@ -1,3 +1,4 @@
+use borrow.Author.Tests.{eq-eqb, ne-eqb}
 use Rattle.drive.specs.House.{commandTests}
 use Rattle.drive.proofs.command_house.Statement.{statement}
 use Rattle.drive.proofs.command_house.Tie as tie
@@ -7,7 +8,6 @@ unfolding commandTests
 command-house-spec =
     tie.close
     (tie.spec
+    (λ c. rw (ne-eqb _ _ (c .if1 .taken)))
     (λ _ _. tt)
-    (λ _ _. tt)
-    (λ _ _. tt)
-    (λ c. rw (c .first-refusal .ensures, c .before .disc-bytes .ensures, c .before .before .sound .ensures)))
+    (λ c. rw (c .lent-house .ensures, eq-eqb _ _ (c .before .if1 .left))))

@@ -1,0 +1,78 @@
+use mathlib.Core.Path.{_≡_, ap}
+use native.Mathlib.Omega.{arith}
+use borrow.Author.Needs.{needs}
+use borrow.Author.Tests.{eq-eqb, ne-eqb}
+use Rattle.state.specs.States.{movedOf}
+use Rattle.drive.specs.World.{World, world}
+use Rattle.drive.specs.Feeds.{fedOf, feedOf}
+use Rattle.drive.specs.Theorems.{Ready}
+use Rattle.drive.proofs.Houses.{in-ready}
+use Rattle.drive.proofs.Entering.{may-write, feeds, unfed}
+use Rattle.drive.proofs.Feeding.{taken-count}
+use Rattle.drive.proofs.feed.Statement.{statement}
+use Rattle.drive.proofs.feed.Tie as tie
+
+returns : tie.Need-returns
+unfolding feedOf
+returns c =
+    rw (
+      c .unmoved .ensures,
+      ← c .before .before .before .lent-house .ensures,
+      ← c .before .before .number-of .ensures,
+      ne-eqb _ _ (c .before .if1 .taken),
+    )
+
+abbrev lent : tie.Else1 → World
+lent c = let x = c .before .before .before .before .before .before .args in world (x .state) (x .buffer .now) (x .disc .now)
+
+ready : (c : tie.Else1) → Ready (lent c)
+ready c =
+    in-ready (lent c) (rw (← c .before .before .lent-house .ensures, ← c .before .number-of .ensures) (eq-eqb _ _ (c .if1 .left)))
+
+feed-blocks-requires : tie.Need-feed-blocks-requires
+feed-blocks-requires c _ =
+    let transfer = c .before .before .before in
+    let past = transfer .before .before in
+    (may-write (lent past) (ready past) _ (transfer .transfer .given .1), ready past .buffer)
+
+further-requires : tie.Need-further-requires
+further-requires c _ =
+    let call = c .before .before .before .before in
+    let transfer = call .before .before .before .before in
+    let past = transfer .before .before in
+    let span = may-write (lent past) (ready past) _ (transfer .transfer .given .1) .span in
+    record { within = omega (arith, taken-count _ _ _ _ _ _ (call .feed-blocks .ensures)); place = omega (arith, span .within, past .before .before .before .before .before .before) }
+
+returns-2 : tie.Need-returns-2
+unfolding movedOf
+returns-2 c =
+    let call = c .before .before .before .before .before .before in
+    let transfer = call .before .before .before .before in
+    let past = transfer .before .before in
+    let w = lent past in
+    rw (feeds w (ready past) (past .before .before .before .before .before .before .args .piece .now), transfer .transfer .given .1, c .onward .ensures, c .before .further .ensures)
+    (ap (fedOf w (transfer .transfer .given .0 .0)) (call .feed-blocks .ensures))
+
+returns-3 : tie.Need-returns-3
+returns-3 c =
+    let past = c .before .before in
+    let piece = past .before .before .before .before .before .before .args .piece .now in
+    rw (c .unmoved2 .ensures, feeds (lent past) (ready past) piece, unfed (lent past) piece (lent past .state .transfer) (c .before .match .keys2))
+
+pub feed-spec : {M : Type 1} → statement M
+feed-spec =
+    tie.close
+    (tie.spec
+    (λ _ _. tt)
+    (λ _ _. tt)
+    (λ _ _. tt)
+    returns
+    (λ c. search needs)
+    feed-blocks-requires
+    further-requires
+    (λ _ _. tt)
+    (λ _ _. tt)
+    (λ c. search needs)
+    (λ c. search needs)
+    returns-2
+    returns-3)
