@@ -1,18 +1,59 @@
--- The marked cases at the edges, by computation. Assumes nothing.
-use Rattle.disc.specs.Formats.{formatOf, blockBytes, runBytes, discBytes, placeOf}
+-- The marked cases at the edges, by computation but for the bytes that are fed. Assumes nothing.
+use mathlib.Core.Path.{_≡_, _∙_}
+use mathlib.Core.Bool.{true}
+use mathlib.Core.List.{List, map}
+use Prim.Native.Nat.{ℕ}
+use native.Mathlib.Omega.{arith}
+use lib.ListN.{length, take}
+use lib.Seq.{sets, length-sets, take-all}
+use Rattle.disc.specs.Formats.{bufferBytes, formatOf, blockBytes, runBytes, discBytes, placeOf}
 use Rattle.disc.specs.Masks.{masks, maskRow}
-use Rattle.state.specs.Senses.{namedB}
-use Rattle.state.specs.States.{failedOf, passedOf}
+use Rattle.state.specs.declared.State.{State}
+use Rattle.state.specs.declared.Transfer.the-variants.{Closed, Write}
+use Rattle.state.specs.Senses.{noSense, namedB}
+use Rattle.state.specs.States.{withTransfer, failedOf, passedOf, movedOf}
 use Rattle.state.specs.Sound.{onDiscB, endsOnBlockB, openSoundB, soundB}
 use Rattle.packet.specs.Fields.{addressOf, lengthOf}
 use Rattle.packet.specs.Rules.{rules, ruleOf}
 use Rattle.packet.specs.Checks.{inMaskB, checksOf, verdict}
 use Rattle.answer.specs.Answers.{senseData, inquiryData}
 use Rattle.answer.specs.Giving.{answerOf, allocationOf, giveOf}
+use Rattle.drive.specs.World.{world}
 use Rattle.drive.specs.House.{lentTests, commandTests}
-use Rattle.drive.specs.Commands.{spanOf, performedOf, commandOf}
-use Rattle.drive.specs.Cases.{Starred}
+use Rattle.drive.specs.Commands.{Commanded, spanOf, performedOf, commandOf}
+use Rattle.drive.specs.Moves.{Moved}
+use Rattle.drive.specs.Feeds.{writing, takenOf, feedOf}
+use Rattle.drive.specs.Cases.{plain, lengthAt7, bytes2And4, cases, outcome, expected, Starred}
+use Rattle.drive.proofs.Feeding.{share-part}
+
+module _ (disc : List ℕ) (d : length disc ≡ 1474560) where
+  -- the write of block 0, so far on
+  abbrev at : ℕ → ℕ → State
+  at place left = withTransfer plain noSense (Write (record { at = record { 0 = place }; left = left }))
+
+  abbrev passes : State → List ℕ → Commanded
+  passes s buffer = record { house = 0; passed = true; world = world s buffer disc }
+
+  -- the table, and the two commands of the last case
+  record Answered (buffer : List ℕ) : Type 0 where
+    table : map (outcome buffer disc) cases ≡ map expected cases
+    opens : commandOf (world plain buffer disc) (lengthAt7 0x2a 0 1) ≡ passes (at 0 512) buffer
+    closes : commandOf (world (at 511 1) buffer disc) (bytes2And4 0x00 0 0) ≡ passes plain buffer
+
+  answered : (buffer : List ℕ) → length buffer ≡ bufferBytes → Answered buffer
+  unfolding formatOf blockBytes runBytes discBytes placeOf masks maskRow namedB failedOf passedOf onDiscB endsOnBlockB openSoundB soundB addressOf lengthOf rules ruleOf inMaskB checksOf verdict senseData inquiryData answerOf allocationOf giveOf lentTests commandTests spanOf performedOf commandOf
+  answered buffer b = record { table = rw (b, d); opens = rw (b, d); closes = rw (b, d) }
+
+  -- 511 bytes complete no block
+  takes : (buffer piece : List ℕ) → length buffer ≡ bufferBytes → length piece ≡ 511
+      → feedOf (world (at 0 512) buffer disc) piece ≡ record { house = 0; count = 511; world = world (at 511 1) (sets buffer 0 piece) disc }
+  unfolding formatOf blockBytes runBytes discBytes namedB movedOf onDiscB endsOnBlockB openSoundB soundB lentTests takenOf feedOf
+  takes buffer piece b p =
+      let all : take 511 piece ≡ piece = take-all 511 piece (omega arith) in
+      rw (b, d, p, all, share-part 512 0 buffer disc piece (omega arith))
 
 pub starred : Starred
-unfolding formatOf blockBytes runBytes discBytes placeOf masks maskRow namedB failedOf passedOf onDiscB endsOnBlockB openSoundB soundB addressOf lengthOf rules ruleOf inMaskB checksOf verdict senseData inquiryData answerOf allocationOf giveOf lentTests commandTests spanOf performedOf commandOf
-starred buffer disc b d = rw (b, d)
+starred buffer disc piece b d p =
+    let start = answered disc d buffer b in
+    let end = answered disc d (sets buffer 0 piece) (length-sets buffer 0 piece ∙ b) in
+    (start .table, rw (start .opens, takes disc d buffer piece b p, end .closes))

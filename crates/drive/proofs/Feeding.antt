@@ -20,7 +20,7 @@ module _ (b : ℕ) where
   -- ---- one byte, j its place within block q
 
   module _ (q j x : ℕ) (buffer disc : List ℕ) where
-    feed-inside : j + 1 < b → feedByte b (writing (q * b + j) buffer disc) x ≡ writing (q * b + suc j) (set buffer j x) disc
+    pub feed-inside : j + 1 < b → feedByte b (writing (q * b + j) buffer disc) x ≡ writing (q * b + suc j) (set buffer j x) disc
     unfolding feedByte
     feed-inside h =
         let e₁ : (q * b + j) % b ≡ j = digits-mod q (omega arith) in
@@ -28,7 +28,7 @@ module _ (b : ℕ) where
         let e₃ : (q * b + suc j) % b ≡ suc j = digits-mod q (omega arith) in
         rw (e₁, e₂, ne-eqb ((q * b + suc j) % b) 0 (λ e. omega arith))
 
-    feed-last : j + 1 ≡ b
+    pub feed-last : j + 1 ≡ b
         → feedByte b (writing (q * b + j) buffer disc) x ≡ writing (q * b + suc j) (set buffer j x) (paste disc (q * b) (set buffer j x) b)
     unfolding feedByte
     feed-last h =

@@ -33,7 +33,7 @@ use Rattle.packet.proofs.Table.{opensB, writesB, guarded}
 use Rattle.answer.specs.Giving.{giveOf}
 use Rattle.answer.proofs.Lengths.{give-count}
 use Rattle.drive.specs.House.{firstRefusal, insertTests, ejectTests}
-use Rattle.drive.specs.Events.{insertOf, ejectOf}
+use Rattle.drive.specs.Events.{event, insertOf, ejectOf}
 use Rattle.drive.specs.World.{World}
 use Rattle.drive.specs.Commands.{openedOf, spanOf, routineOf, performedOf, obeyedOf, commandHouse, commandOf}
 use Rattle.drive.specs.Theorems.{PowerOnSound, InsertKeeps, EjectKeeps, CommandKeeps}
@@ -47,7 +47,8 @@ pub insert-keeps : InsertKeeps
 unfolding insertOf insertTests
 insert-keeps s number prot disc e = here (noneB (firstRefusal (insertTests s number (length disc)))) refl
   where
-    here : (b : Bool) → noneB (firstRefusal (insertTests s number (length disc))) ≡ b → soundB (cond b (insertedOf s number prot) s) ≡ true
+    here : (b : Bool) → noneB (firstRefusal (insertTests s number (length disc))) ≡ b
+        → soundB (cond b (event 0 (insertedOf s number prot)) (event (firstRefusal (insertTests s number (length disc))) s) .state) ≡ true
     here false q = e
     here true q =
         let test5 = let-pass (insertTests s number (length disc)) refl q .1 in
@@ -60,13 +61,13 @@ pub eject-keeps : EjectKeeps
 unfolding ejectOf
 eject-keeps s e = here (noneB (firstRefusal (ejectTests s)))
   where
-    here : (b : Bool) → soundB (cond b (ejectedOf s) s) ≡ true
+    here : (b : Bool) → soundB (cond b (event 0 (ejectedOf s)) (event (firstRefusal (ejectTests s)) s) .state) ≡ true
     here false = e
     here true = ejected-sound s e
 
 -- ---- what a command opens
 
-opened-sound : (number : ℕ) (prot : Bool) (left : ℕ) (t : Transfer) → ((left ≡ 0 → ⊥) → openSoundB number prot t ≡ true)
+pub opened-sound : (number : ℕ) (prot : Bool) (left : ℕ) (t : Transfer) → ((left ≡ 0 → ⊥) → openSoundB number prot t ≡ true)
     → openSoundB number prot (openedOf left t) ≡ true
 unfolding openSoundB
 opened-sound number prot left t some = here (eqb left 0) refl

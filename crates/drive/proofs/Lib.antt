@@ -10,3 +10,6 @@ pub mod Feeding
 pub mod Sharing
 pub mod Pulling
 pub mod Entering
+pub mod Refusing
+pub mod Moving
+pub mod Whole

@@ -6,10 +6,13 @@ use lib.ListN.{getD}
 use Rattle.drive.specs.declared.House.{House}
 use Rattle.drive.specs.declared.House.the-variants.{Accepted, PacketLength, Unsound, BufferLength, DiscLength, DiscIn, NoDiscIn, NoSuchDisc}
 use Rattle.drive.specs.declared.EventReply.{EventReply}
+use Rattle.drive.specs.declared.MoveReply.{MoveReply}
 use Rattle.drive.specs.House.{numberOf}
 use Rattle.drive.specs.Events.{Happened, happened}
 use Rattle.drive.specs.Commands.{Commanded}
-use Rattle.drive.specs.Theorems.{OnePowerOn, OneInsertion, OneEjection, OneCommand}
+use Rattle.drive.specs.Moves.{Moved, moved}
+use Rattle.drive.specs.Pulls.{Pulled}
+use Rattle.drive.specs.Theorems.{OnePowerOn, OneInsertion, OneEjection, OneCommand, OneFeed, OnePull}
 
 -- the houses by number
 abbrev houses : List House
@@ -51,3 +54,22 @@ one-command w p r q b c e f =
     let passed = ap (λ (h : Commanded). h .passed) same in
     let state = ap (λ (h : Commanded). h .world .state) same in
     (λ i. record { house = house i; passed = passed i; state = state i }, ap (λ (h : Commanded). h .world .buffer) same)
+
+one-move : (r q : MoveReply) (b c d e : List ℕ) → moved r b d ≡ moved q c e → (r ≡ q) × (b ≡ c) × (d ≡ e)
+one-move r q b c d e same =
+    let house = one-house (r .house) (q .house) (ap (λ (m : Moved). m .house) same) in
+    let count = ap (λ (m : Moved). m .count) same in
+    let state = ap (λ (m : Moved). m .world .state) same in (
+      λ i. record { house = house i; count = count i; state = state i },
+      ap (λ (m : Moved). m .world .buffer) same,
+      ap (λ (m : Moved). m .world .disc) same,
+    )
+
+pub one-feed : OneFeed
+one-feed w piece r q b c d e f g = one-move r q b c d e (f ∙ sym g)
+
+pub one-pull : OnePull
+one-pull w out r q x y e f =
+    let same = e ∙ sym f in
+    let moved-alike = ap (λ (p : Pulled). p .moved) same in
+    (one-move r q (w .buffer) (w .buffer) (w .disc) (w .disc) moved-alike .0, ap (λ (p : Pulled). p .out) same)

@@ -1,4 +1,4 @@
--- Paper 01, "Cases at the edges": those marked that concern commands, as one table; proved in proofs/Cases.
+-- Paper 01, "Cases at the edges": those marked, in one statement; proved in proofs/Cases.
 use mathlib.Core.Path.{_≡_}
 use mathlib.Core.Bool.{Bool, true, false}
 use mathlib.Core.List.{List, [], _∷_, _++_, map}
@@ -14,9 +14,10 @@ use Rattle.state.specs.States.{stateOf, withTransfer}
 use Rattle.answer.specs.Bytes.{be2, be4}
 use Rattle.drive.specs.World.{world}
 use Rattle.drive.specs.Commands.{commandOf}
+use Rattle.drive.specs.Feeds.{feedOf}
 
 -- "Disc 3, no flags, unless said"
-abbrev plain : State
+abbrev pub plain : State
 plain = stateOf 3 false false false false noSense Closed
 
 abbrev protectedDisc : State
@@ -29,13 +30,13 @@ abbrev afterFailure : State
 afterFailure = stateOf 3 false false false false (triple 0x05 0x21 0x00) Closed
 
 -- packets: code, address, and length at bytes 7-8 or at bytes 6-9; code, byte 2 and byte 4
-abbrev lengthAt7 : ℕ → ℕ → ℕ → List ℕ
+abbrev pub lengthAt7 : ℕ → ℕ → ℕ → List ℕ
 lengthAt7 code address length = code ∷ 0 ∷ be4 address ++ 0 ∷ be2 length ++ replicate 3 0
 
 abbrev lengthAt6 : ℕ → ℕ → ℕ → List ℕ
 lengthAt6 code address length = code ∷ 0 ∷ be4 address ++ be4 length ++ replicate 2 0
 
-abbrev bytes2And4 : ℕ → ℕ → ℕ → List ℕ
+abbrev pub bytes2And4 : ℕ → ℕ → ℕ → List ℕ
 bytes2And4 code two four = code ∷ 0 ∷ two ∷ 0 ∷ four ∷ replicate 7 0
 
 -- the state before, the packet, whether it passes, the state after
@@ -83,16 +84,32 @@ pub record Outcome : Type 0 where
   pub passed : Bool
   pub state : State
 
-abbrev outcome : List ℕ → List ℕ → Case → Outcome
+abbrev pub outcome : List ℕ → List ℕ → Case → Outcome
 outcome buffer disc c =
     let r = commandOf (world (c .before) buffer disc) (c .packet) in
     record { house = r .house; passed = r .passed; state = r .world .state }
 
 -- no house test refuses
-abbrev expected : Case → Outcome
+abbrev pub expected : Case → Outcome
 expected c = record { house = 0; passed = c .passed; state = c .after }
 
--- over any block buffer and any disc 3
+-- "Write of one block, 511 bytes fed, then 00": whether the write passed, how many bytes were taken, whether 00 passed, and the disc
+pub record BrokenOff : Type 0 where
+  pub opened : Bool
+  pub count : ℕ
+  pub passed : Bool
+  pub disc : List ℕ
+
+abbrev pub brokenOff : List ℕ → List ℕ → List ℕ → BrokenOff
+brokenOff buffer disc piece =
+    let written = commandOf (world plain buffer disc) (lengthAt7 0x2a 0 1) in
+    let fed = feedOf (written .world) piece in
+    let tested = commandOf (fed .world) (bytes2And4 0x00 0 0) in
+    record { opened = written .passed; count = fed .count; passed = tested .passed; disc = tested .world .disc }
+
+-- over any block buffer, any disc 3 and any 511 bytes
 abbrev pub Starred : Type 0
 Starred =
-    (buffer disc : List ℕ) → length buffer ≡ bufferBytes → length disc ≡ 1474560 → map (outcome buffer disc) cases ≡ map expected cases
+    (buffer disc piece : List ℕ) → length buffer ≡ bufferBytes → length disc ≡ 1474560 → length piece ≡ 511
+    → (map (outcome buffer disc) cases ≡ map expected cases)
+    × (brokenOff buffer disc piece ≡ record { opened = true; count = 511; passed = true; disc = disc })

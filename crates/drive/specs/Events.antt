@@ -17,9 +17,12 @@ pub record Happened : Type 0 where
 abbrev pub happened : EventReply → Happened
 happened r = record { house = numberOf (r .house); state = r .state }
 
+abbrev pub event : ℕ → State → Happened
+event house s = record { house = house; state = s }
+
 -- "Each returns its number .. and leaves state .. as they were."
 abbrev pub unlessRefused : ℕ → State → State → Happened
-unlessRefused house s next = record { house = house; state = cond (eqb house 0) next s }
+unlessRefused house s next = cond (eqb house 0) (event 0 next) (event house s)
 
 -- "Insertion tests 2, 5, 7, 4"
 unfoldable pub insertOf : State → ℕ → Bool → List ℕ → Happened

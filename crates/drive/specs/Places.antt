@@ -8,14 +8,14 @@ use Rattle.state.specs.declared.AnswerAt.{AnswerAt}
 use Rattle.state.specs.declared.DiscAt.{DiscAt}
 
 -- a disc is in, and it is lent whole
-pub record Lent (number : ℕ) (disc : List ℕ) : Type 0 where
+pub record LentDisc (number : ℕ) (disc : List ℕ) : Type 0 where
   pub low : 0 < number
   pub high : number ≤ 4
   pub whole : length disc ≡ discBytes number
 
 -- a place on the disc
 pub record Place (number at : ℕ) (disc : List ℕ) : Type 0 where
-  pub lent : Lent number disc
+  pub lent : LentDisc number disc
   pub within : at < length disc
 
 -- the bytes left of an answer: all in the block buffer
@@ -24,7 +24,7 @@ pub record InBuffer (from : AnswerAt) (buffer : List ℕ) : Type 0 where
 
 -- the bytes left of a read: all on the disc
 pub record Span (number : ℕ) (from : DiscAt) (disc : List ℕ) : Type 0 where
-  pub lent : Lent number disc
+  pub lent : LentDisc number disc
   pub within : from .at .0 + from .left ≤ length disc
 
 -- the bytes left of a write: they end where a block ends, too

@@ -1,10 +1,10 @@
--- What holds of the entries; proved in proofs/Keeps, proofs/Single and proofs/Pending.
+-- What holds of the entries; proved in proofs/Keeps, proofs/Single, proofs/Refusing, proofs/Whole and proofs/Pending.
 use mathlib.Core.Path.{_≡_}
 use mathlib.Core.Bool.{Bool, true, false, cond, not, _&&_, _||_}
-use mathlib.Core.List.{List, [], _∷_}
-use Prim.Native.Nat.{ℕ, suc, _≤_}
-use lib.Dec.{eqb}
-use lib.ListN.{length}
+use mathlib.Core.List.{List, [], _∷_, _++_}
+use Prim.Native.Nat.{ℕ, suc, _+_, _-_, _*_, _%_, _≤_, _<_}
+use lib.Dec.{eqb, leb, ltb}
+use lib.ListN.{length, take, drop}
 use Rattle.disc.specs.Formats.{bufferBytes, discBytes}
 use Rattle.state.specs.declared.State.{State}
 use Rattle.state.specs.declared.Attention.the-variants.{Change}
@@ -19,9 +19,14 @@ use Rattle.packet.specs.declared.Known.{Known}
 use Rattle.packet.specs.declared.Known.the-variants.{Unknown, Base}
 use Rattle.drive.specs.declared.EventReply.{EventReply}
 use Rattle.drive.specs.declared.CommandReply.{CommandReply}
-use Rattle.drive.specs.Events.{happened, insertOf, ejectOf}
+use Rattle.drive.specs.declared.MoveReply.{MoveReply}
 use Rattle.drive.specs.World.{World}
-use Rattle.drive.specs.Commands.{Commanded, commanded, commandOf}
+use Rattle.drive.specs.House.{firstRefusal, insertTests, ejectTests}
+use Rattle.drive.specs.Events.{Happened, happened, insertOf, ejectOf}
+use Rattle.drive.specs.Commands.{Commanded, commanded, commandHouse, commandOf}
+use Rattle.drive.specs.Moves.{Moved, moved, moveHouse}
+use Rattle.drive.specs.Feeds.{Writing, feedByte, feedBytes, feedOf}
+use Rattle.drive.specs.Pulls.{Pulled, pulled, pullOf}
 
 -- ---- "Every call keeps soundness."
 
@@ -36,6 +41,12 @@ EjectKeeps = (s : State) → soundB s ≡ true → soundB (ejectOf s .state) ≡
 
 abbrev pub CommandKeeps : Type 0
 CommandKeeps = (w : World) (p : List ℕ) → soundB (w .state) ≡ true → soundB (commandOf w p .world .state) ≡ true
+
+abbrev pub FeedKeeps : Type 0
+FeedKeeps = (w : World) (piece : List ℕ) → soundB (w .state) ≡ true → soundB (feedOf w piece .world .state) ≡ true
+
+abbrev pub PullKeeps : Type 0
+PullKeeps = (w : World) (out : List ℕ) → soundB (w .state) ≡ true → soundB (pullOf w out .moved .world .state) ≡ true
 
 -- ---- "Show that two answers allowed by the promise are equal"
 
@@ -55,6 +66,88 @@ abbrev pub OneCommand : Type 0
 OneCommand =
     (w : World) (p : List ℕ) (r q : CommandReply) (b c : List ℕ)
     → commanded r b (w .disc) ≡ commandOf w p → commanded q c (w .disc) ≡ commandOf w p → (r ≡ q) × (b ≡ c)
+
+-- and so are the block buffers and the discs
+abbrev pub OneFeed : Type 0
+OneFeed =
+    (w : World) (piece : List ℕ) (r q : MoveReply) (b c d e : List ℕ)
+    → moved r b d ≡ feedOf w piece → moved q c e ≡ feedOf w piece → (r ≡ q) × (b ≡ c) × (d ≡ e)
+
+-- and so are the caller's buffers
+abbrev pub OnePull : Type 0
+OnePull =
+    (w : World) (out : List ℕ) (r q : MoveReply) (x y : List ℕ)
+    → pulled (moved r (w .buffer) (w .disc)) x ≡ pullOf w out → pulled (moved q (w .buffer) (w .disc)) y ≡ pullOf w out → (r ≡ q) × (x ≡ y)
+
+-- ---- "Each returns its number and count 0, and leaves state, disc, block buffer and the caller's buffer as they were. It is given
+-- ---- exactly then."
+
+-- an answer's house number is that of the first test to fail, 0 for none; where there is one, the answer is the refusal
+pub record Refuses {A : Type 0} (house : ℕ) (number : A → ℕ) (answer refusal : A) : Type 0 where
+  pub exactly : number answer ≡ house
+  pub changes-nothing : (house ≡ 0 → ⊥) → answer ≡ refusal
+
+abbrev pub InsertRefuses : Type 0
+InsertRefuses =
+    (s : State) (number : ℕ) (prot : Bool) (disc : List ℕ)
+    → let house = firstRefusal (insertTests s number (length disc)) in
+    Refuses house (λ (h : Happened). h .house) (insertOf s number prot disc) (record { house = house; state = s })
+
+abbrev pub EjectRefuses : Type 0
+EjectRefuses =
+    (s : State)
+    → let house = firstRefusal (ejectTests s) in
+    Refuses house (λ (h : Happened). h .house) (ejectOf s) (record { house = house; state = s })
+
+abbrev pub CommandRefuses : Type 0
+CommandRefuses =
+    (w : World) (p : List ℕ)
+    → let house = commandHouse w p in
+    Refuses house (λ (c : Commanded). c .house) (commandOf w p) (record { house = house; passed = false; world = w })
+
+abbrev pub FeedRefuses : Type 0
+FeedRefuses =
+    (w : World) (piece : List ℕ)
+    → let house = moveHouse w in
+    Refuses house (λ (m : Moved). m .house) (feedOf w piece) (record { house = house; count = 0; world = w })
+
+abbrev pub PullRefuses : Type 0
+PullRefuses =
+    (w : World) (out : List ℕ)
+    → let house = moveHouse w in
+    Refuses house (λ (p : Pulled). p .moved .house) (pullOf w out)
+    (record { moved = record { house = house; count = 0; world = w }; out = out })
+
+-- ---- "Hence at any cut a block on the disc is all old or all new."
+
+-- block k of a disc with blocks of b bytes, and the place after it
+abbrev pub blockAt : ℕ → List ℕ → ℕ → List ℕ
+blockAt b disc k = take b (drop (k * b) disc)
+
+abbrev pub endOf : ℕ → ℕ → ℕ
+endOf b k = k * b + b
+
+-- a byte that isn't its block's last leaves the disc; one that is changes exactly that block, to what the block buffer then holds
+abbrev pub OnlyAtTheLastByte : Type 0
+OnlyAtTheLastByte =
+    (b : ℕ) (w : Writing) (x k : ℕ) → 0 < b → b ≤ length (w .buffer) → w .at < length (w .disc)
+    → blockAt b (feedByte b w x .disc) k ≡ cond (eqb (w .at + 1) (endOf b k)) (take b (feedByte b w x .buffer)) (blockAt b (w .disc) k)
+
+-- from the start of the block that is being written on: what the block buffer has of it, then the bytes that come
+abbrev pub gatheredOf : ℕ → Writing → List ℕ → List ℕ
+gatheredOf b w xs = take (w .at % b) (w .buffer) ++ xs
+
+-- the last byte of block k is among n bytes from `at` on
+unfoldable pub completesB : ℕ → ℕ → ℕ → ℕ → Bool
+completesB b at n k = ltb at (endOf b k) && leb (endOf b k) (at + n)
+
+-- after any bytes, so at any cut, each block is what it was or, if its last byte is among them, the bytes gathered for it
+abbrev pub AllOldOrAllNew : Type 0
+AllOldOrAllNew =
+    (b : ℕ) (w : Writing) (xs : List ℕ) (k : ℕ)
+    → 0 < b → b ≤ length (w .buffer) → w .at + length xs ≤ length (w .disc)
+    → blockAt b (feedBytes b w xs .disc) k
+    ≡ cond (completesB b (w .at) (length xs) k) (take b (drop (k * b - (w .at - w .at % b)) (gatheredOf b w xs))) (blockAt b (w .disc) k)
 
 -- ---- "So while a change is pending, of the commands that pass A and B and aren't 03 or 12, the second at the latest reports a
 -- ---- change, if no event comes between."

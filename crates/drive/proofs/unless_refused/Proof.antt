@@ -8,4 +8,4 @@ unless-refused-spec =
     (tie.spec
     (λ _ _. tt)
     (λ c. rw (← c .before .number-of .ensures, ne-eqb _ _ (c .if1 .taken)))
-    (λ c. rw (← c .before .number-of .ensures, eq-eqb _ _ (c .if1 .left))))
+    (λ c. rw (← c .before .number-of .ensures, c .if1 .left)))

@@ -1,0 +1,103 @@
+-- Feed and pull keep soundness. Assumes nothing.
+use mathlib.Core.Path.{_≡_, refl}
+use mathlib.Core.Bool.{Bool, true, false, cond}
+use mathlib.Core.List.{List}
+use Prim.Native.Nat.{ℕ, _+_, _-_, _%_, _≤_, min}
+use native.Mathlib.Omega.{arith}
+use lib.ListN.{length}
+use Rattle.disc.specs.Formats.{blockBytes}
+use Rattle.state.specs.declared.State.{State}
+use Rattle.state.specs.declared.AnswerAt.{AnswerAt}
+use Rattle.state.specs.declared.DiscAt.{DiscAt}
+use Rattle.state.specs.declared.Transfer.{Transfer}
+use Rattle.state.specs.declared.Transfer.the-variants.{Closed, Answer, Read, Write}
+use Rattle.state.specs.States.{movedOf}
+use Rattle.state.specs.Sound.{openSoundB, soundB}
+use Rattle.state.proofs.Keeps.{parts, moved-sound}
+use Rattle.state.proofs.Opened.{OnDisc, EndsOnBlock, in-buffer, answer-sound, on-disc, on-disc-sound, writes, writes-sound}
+use Rattle.drive.specs.World.{World}
+use Rattle.drive.specs.Commands.{openedOf}
+use Rattle.drive.specs.Moves.{moveHouse, unmovedOf, furtherOf}
+use Rattle.drive.specs.Feeds.{takenOf, feedingOf, feedOf}
+use Rattle.drive.specs.Pulls.{pulled, pullingOf, pullOf}
+use Rattle.drive.specs.Theorems.{FeedKeeps, PullKeeps}
+use Rattle.drive.proofs.Houses.{noneB}
+use Rattle.drive.proofs.Keeps.{opened-sound}
+
+-- ---- n bytes further on, what is left is where it was
+
+module _ (number : ℕ) (p : DiscAt) (n : ℕ) (some : p .left - n ≡ 0 → ⊥) where
+  further-on : OnDisc number p → OnDisc number (furtherOf p n)
+  further-on d = record { is-in = d .is-in; some = omega arith; within = omega (arith, d .within) }
+
+  further-ends : EndsOnBlock number p → EndsOnBlock number (furtherOf p n)
+  further-ends e =
+      let same : p .at .0 + n + (p .left - n) ≡ p .at .0 + p .left = omega arith in
+      record { blocks = e .blocks; whole = rw same (e .whole) }
+
+-- ---- each transfer, n bytes further on
+
+module _ (s : State) (sound : soundB s ≡ true) (n : ℕ) where
+  going-on : (left : ℕ) (t : Transfer) → ((left ≡ 0 → ⊥) → openSoundB (s .disc) (s .protected) t ≡ true)
+      → soundB (movedOf s (openedOf left t)) ≡ true
+  going-on left t some = moved-sound s (openedOf left t) sound (opened-sound (s .disc) (s .protected) left t some)
+
+  answer-on : (p : AnswerAt) → openSoundB (s .disc) (s .protected) (Answer p) ≡ true
+      → soundB (movedOf s (openedOf (p .left - n) (Answer (record { at = p .at + n; left = p .left - n })))) ≡ true
+  answer-on p e =
+      let i = in-buffer (s .disc) (s .protected) p e in
+      going-on (p .left - n) (Answer (record { at = p .at + n; left = p .left - n }))
+      (λ some. answer-sound (s .disc) (s .protected) (record { at = p .at + n; left = p .left - n })
+      (record { some = omega (arith, some); within = omega (arith, some, i .within) }))
+
+  read-on : (p : DiscAt) → openSoundB (s .disc) (s .protected) (Read p) ≡ true
+      → soundB (movedOf s (openedOf (p .left - n) (Read (furtherOf p n)))) ≡ true
+  unfolding openSoundB
+  read-on p e =
+      going-on (p .left - n) (Read (furtherOf p n))
+      (λ some. on-disc-sound (s .disc) (furtherOf p n) (further-on (s .disc) p n some (on-disc (s .disc) p e)))
+
+  write-on : (p : DiscAt) → openSoundB (s .disc) (s .protected) (Write p) ≡ true
+      → soundB (movedOf s (openedOf (p .left - n) (Write (furtherOf p n)))) ≡ true
+  write-on p e =
+      let o = writes (s .disc) (s .protected) p e in
+      going-on (p .left - n) (Write (furtherOf p n))
+      (λ some. writes-sound (s .disc) (s .protected) (furtherOf p n)
+      (record {
+        on = further-on (s .disc) p n some (o .on);
+        ends = further-ends (s .disc) p n some (o .ends);
+        bare = o .bare;
+      }))
+
+-- ---- the entries
+
+feeding-sound : (w : World) (piece : List ℕ) → soundB (w .state) ≡ true → (t : Transfer) → openSoundB (w .state .disc) (w .state .protected) t ≡ true
+    → soundB (feedingOf t w piece .world .state) ≡ true
+unfolding takenOf
+feeding-sound w piece sound Closed e = sound
+feeding-sound w piece sound (Answer p) e = sound
+feeding-sound w piece sound (Read p) e = sound
+feeding-sound w piece sound (Write p) e = write-on (w .state) sound (min (length piece) (p .left)) p e
+
+pub feed-keeps : FeedKeeps
+unfolding feedOf
+feed-keeps w piece sound = here (noneB (moveHouse w))
+  where
+    here : (b : Bool) → soundB (cond b (feedingOf (w .state .transfer) w piece) (unmovedOf (moveHouse w) w) .world .state) ≡ true
+    here false = sound
+    here true = feeding-sound w piece sound (w .state .transfer) (parts (w .state) sound .opened)
+
+pulling-sound : (w : World) (out : List ℕ) → soundB (w .state) ≡ true → (t : Transfer) → openSoundB (w .state .disc) (w .state .protected) t ≡ true
+    → soundB (pullingOf t w out .moved .world .state) ≡ true
+pulling-sound w out sound Closed e = sound
+pulling-sound w out sound (Answer p) e = answer-on (w .state) sound (min (length out) (p .left)) p e
+pulling-sound w out sound (Read p) e = read-on (w .state) sound (min (length out) (p .left)) p e
+pulling-sound w out sound (Write p) e = sound
+
+pub pull-keeps : PullKeeps
+unfolding pullOf
+pull-keeps w out sound = here (noneB (moveHouse w))
+  where
+    here : (b : Bool) → soundB (cond b (pullingOf (w .state .transfer) w out) (pulled (unmovedOf (moveHouse w) w) out) .moved .world .state) ≡ true
+    here false = sound
+    here true = pulling-sound w out sound (w .state .transfer) (parts (w .state) sound .opened)
