@@ -45,9 +45,9 @@ module _ (w : World) where
             eqb-true (length (w .disc)) (discBytes (w .state .disc)) (not-false (eqb (length (w .disc)) (discBytes (w .state .disc))) (test4 .0));
       }
 
-  pub in-ready : noneB (moveHouse w) ≡ true → Ready w
+  pub in-ready : moveHouse w ≡ 0 → Ready w
   unfolding lentTests
-  in-ready none = none-ready (let-pass lent refl none)
+  in-ready none = none-ready (let-pass lent refl (eq-eqb (moveHouse w) 0 none))
 
   module _ (p : List ℕ) where
     -- the house lets a command pass exactly if its packet has 12 bytes and the world is ready

@@ -8,12 +8,13 @@ use lib.Seq.{length-take-le, take-take, take-at, drop-at, take-add, drop-drop, s
 use Rattle.answer.specs.Giving.{fillOf}
 use Rattle.drive.proofs.Parts.{put-back}
 
--- a copy of k bytes of the source from `at` on fills as the source from `at` on does
-pub fill-part : (at k : ℕ) (source out : List ℕ) → at + k ≤ length source
-    → fillOf (min (length (take k (drop at source))) (length out)) (take k (drop at source)) out ≡ fillOf (min k (length out)) (drop at source) out
-fill-part at k source out h =
-    let l = length-take-le k (drop at source) (simp length-drop (omega arith)) in
-    rw (l, take-take (min k (length out)) k (drop at source) (omega arith))
+-- a copy of the source's part from `at` to `end` fills as the source from `at` on does
+pub fill-part : (at end : ℕ) (source out : List ℕ) → end ≤ length source
+    → fillOf (min (length (take (end - at) (drop at source))) (length out)) (take (end - at) (drop at source)) out
+    ≡ fillOf (min (end - at) (length out)) (drop at source) out
+fill-part at end source out h =
+    let l = length-take-le (end - at) (drop at source) (simp length-drop (omega arith)) in
+    rw (l, take-take (min (end - at) (length out)) (end - at) (drop at source) (omega arith))
 
 -- r bytes more, through the k bytes of `out` from `a` on, after `a` of them
 pub fill-more : (source out₀ out last : List ℕ) (a k r : ℕ) → a + r ≤ length source → a + k ≤ length out → r ≤ k

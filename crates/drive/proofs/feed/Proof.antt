@@ -1,33 +1,30 @@
-use mathlib.Core.Path.{_≡_, ap}
+use mathlib.Core.Path.{_≡_, sym, _∙_, ap}
 use native.Mathlib.Omega.{arith}
 use borrow.Author.Needs.{needs}
-use borrow.Author.Tests.{eq-eqb, ne-eqb}
 use Rattle.state.specs.States.{movedOf}
 use Rattle.drive.specs.World.{World, world}
-use Rattle.drive.specs.Feeds.{fedOf, feedOf}
+use Rattle.drive.specs.Feeds.{fedOf}
 use Rattle.drive.specs.Theorems.{Ready}
 use Rattle.drive.proofs.Houses.{in-ready}
+use Rattle.drive.proofs.Refusing.{feed-refuses}
 use Rattle.drive.proofs.Entering.{may-write, feeds, unfed}
 use Rattle.drive.proofs.Feeding.{taken-count}
 use Rattle.drive.proofs.feed.Statement.{statement}
 use Rattle.drive.proofs.feed.Tie as tie
 
 returns : tie.Need-returns
-unfolding feedOf
 returns c =
-    rw (
-      c .unmoved .ensures,
-      ← c .before .before .before .lent-house .ensures,
-      ← c .before .before .number-of .ensures,
-      ne-eqb _ _ (c .before .if1 .taken),
-    )
+    let house = c .before .before .before in
+    let x = house .before .before .before .before .args in
+    let refused = feed-refuses (world (x .state) (x .buffer .now) (x .disc .now)) (x .piece .now) in
+    let number = c .before .before .number-of .ensures ∙ house .lent-house .ensures in
+    rw (c .unmoved .ensures, refused .changes-nothing (λ z. c .before .if1 .taken (number ∙ z)), ← house .lent-house .ensures)
 
 abbrev lent : tie.Else1 → World
 lent c = let x = c .before .before .before .before .before .before .args in world (x .state) (x .buffer .now) (x .disc .now)
 
 ready : (c : tie.Else1) → Ready (lent c)
-ready c =
-    in-ready (lent c) (rw (← c .before .before .lent-house .ensures, ← c .before .number-of .ensures) (eq-eqb _ _ (c .if1 .left)))
+ready c = in-ready (lent c) (sym (c .before .before .lent-house .ensures) ∙ sym (c .before .number-of .ensures) ∙ c .if1 .left)
 
 feed-blocks-requires : tie.Need-feed-blocks-requires
 feed-blocks-requires c _ =

@@ -1,34 +1,31 @@
-use mathlib.Core.Path.{_≡_, ap}
+use mathlib.Core.Path.{_≡_, sym, _∙_, ap}
 use Prim.Native.Nat.{_≤_}
 use native.Mathlib.Omega.{arith}
 use borrow.Author.Needs.{needs}
-use borrow.Author.Tests.{eq-eqb, ne-eqb}
 use Rattle.state.specs.States.{movedOf}
 use Rattle.answer.specs.Giving.{Filled}
 use Rattle.drive.specs.World.{World, world}
-use Rattle.drive.specs.Pulls.{answerPulledOf, readPulledOf, pullOf}
+use Rattle.drive.specs.Pulls.{answerPulledOf, readPulledOf}
 use Rattle.drive.specs.Theorems.{Ready}
 use Rattle.drive.proofs.Houses.{in-ready}
+use Rattle.drive.proofs.Refusing.{pull-refuses}
 use Rattle.drive.proofs.Entering.{may-answer, may-read, pulls, unpulled}
 use Rattle.drive.proofs.pull.Statement.{statement}
 use Rattle.drive.proofs.pull.Tie as tie
 
 returns : tie.Need-returns
-unfolding pullOf
 returns c =
-    rw (
-      c .unmoved .ensures,
-      ← c .before .before .before .lent-house .ensures,
-      ← c .before .before .number-of .ensures,
-      ne-eqb _ _ (c .before .if1 .taken),
-    )
+    let house = c .before .before .before in
+    let x = house .before .before .before .before .args in
+    let refused = pull-refuses (world (x .state) (x .buffer .now) (x .disc .now)) (x .out .now) in
+    let number = c .before .before .number-of .ensures ∙ house .lent-house .ensures in
+    rw (c .unmoved .ensures, refused .changes-nothing (λ z. c .before .if1 .taken (number ∙ z)), ← house .lent-house .ensures)
 
 abbrev lent : tie.Else1 → World
 lent c = let x = c .before .before .before .before .before .before .args in world (x .state) (x .buffer .now) (x .disc .now)
 
 ready : (c : tie.Else1) → Ready (lent c)
-ready c =
-    in-ready (lent c) (rw (← c .before .before .lent-house .ensures, ← c .before .number-of .ensures) (eq-eqb _ _ (c .if1 .left)))
+ready c = in-ready (lent c) (sym (c .before .before .lent-house .ensures) ∙ sym (c .before .number-of .ensures) ∙ c .if1 .left)
 
 -- ---- an answer
 

@@ -1,4 +1,4 @@
-use mathlib.Core.Path.{_≡_}
+use mathlib.Core.Path.{_≡_, _∙_}
 use native.Mathlib.Nat.{min-comm}
 use native.Mathlib.Omega.{arith}
 use borrow.Author.Needs.{needs}
@@ -14,7 +14,9 @@ returns c =
     let x = start .args in
     let at = x .from .at in
     let e : at + x .from .left - at ≡ x .from .left = omega arith in
-    rw (c .before .before .copy .ensures, e, fill-part at (x .from .left) (x .buffer .now) (x .out .now) (start .pre .within), min-comm (x .from .left) (length (x .out .now)))
+    c .before .before .copy .ensures
+    ∙ fill-part at (at + x .from .left) (x .buffer .now) (x .out .now) (start .pre .within)
+    ∙ rw (e, min-comm (x .from .left) (length (x .out .now)))
 
 pub pull-answer-spec : {M : Type 1} → statement M
 pull-answer-spec =

@@ -4,8 +4,8 @@ use mathlib.Core.List.{_++_}
 use Prim.Native.Nat.{_≤_, _+_, _-_, _%_, min}
 use native.Mathlib.Nat.{mod-lt}
 use native.Mathlib.Omega.{arith}
-use lib.ListN.{length, take, drop, length-drop}
-use lib.Seq.{length-take-le, drop-drop}
+use lib.ListN.{length, take, drop, length-take, length-drop}
+use lib.Seq.{drop-drop}
 use borrow.Author.Needs.{needs}
 use Rattle.disc.specs.Formats.{blockBytes}
 use Rattle.disc.proofs.Table.{block-holds}
@@ -33,10 +33,8 @@ moved c =
     let x = start .args in
     let lent = start .pre .lent in
     let done = at-loop .loop .done in
-    let k = at-loop .before .least .result - done in
     let inside = mod-lt (x .from .at .0 + done) (block-holds (x .number) (lent .low) (lent .high)) in
-    let l = length-take-le k (drop done (at-loop .loop .out)) (simp length-drop (omega arith)) in
-    let r = rw l at (ap (λ (f : Filled). f .count) (call .pull-share .ensures)) in
+    let r = simp (length-take, length-drop) at (ap (λ (f : Filled). f .count) (call .pull-share .ensures)) in
     record { some = omega (arith, r); within = omega (arith, r) }
 
 loop-again : tie.Need-loop-again Inv-loop μ-loop

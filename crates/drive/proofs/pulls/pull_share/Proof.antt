@@ -1,4 +1,4 @@
-use mathlib.Core.Path.{_≡_}
+use mathlib.Core.Path.{_≡_, _∙_}
 use Prim.Native.Nat.{_+_, _-_, _%_}
 use native.Mathlib.Nat.{mod-le}
 use native.Mathlib.Omega.{arith}
@@ -24,8 +24,8 @@ returns c =
     let k = known block in
     let at = x .place .0 in
     let e : at - at % b + b - at ≡ b - at % b = omega arith in
-    rw (← block .block-bytes .ensures, c .before .before .copy .ensures, e)
-    (fill-part at (b - at % b) (x .disc .now) (x .out .now) (k .fits))
+    rw (← block .block-bytes .ensures)
+    (c .before .before .copy .ensures ∙ fill-part at (at - at % b + b) (x .disc .now) (x .out .now) (omega arith) ∙ rw e)
 
 pub pull-share-spec : {M : Type 1} → statement M
 pull-share-spec =
