@@ -5,7 +5,7 @@ use Prim.Native.Nat.{ℕ, _≤_}
 use native.Mathlib.Nat.{le-refl}
 use lib.ListN.{length, take}
 use lib.Seq.{length-take-le, take-take}
-use Rattle.answer.specs.Giving.{fillOf}
+use Rattle.answer.specs.Filling.{fillOf}
 
 pub fill-start : (n : ℕ) (source buffer : List ℕ) → n ≤ length source
     → fillOf (length (take n source)) (take n source) buffer ≡ fillOf n source buffer

@@ -13,6 +13,6 @@ module _ (a : Answering) (s : State) (control allocation : ℕ) (buffer : List �
   unfolding giveOf
   give-count = omega arith
 
-  pub give-length : length (giveOf a s control allocation buffer .buffer) ≡ length buffer
+  pub give-length : length (giveOf a s control allocation buffer .bytes) ≡ length buffer
   unfolding giveOf
   give-length = simp (length-append, length-take, length-drop) (omega arith)

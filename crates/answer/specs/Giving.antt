@@ -1,24 +1,13 @@
 -- Paper 01, "Answers from the block buffer": how an answer gets there.
-use mathlib.Core.List.{List, _++_}
+use mathlib.Core.List.{List}
 use Prim.Native.Nat.{ℕ, min}
 use lib.Dec.{eqb}
-use lib.ListN.{length, take, drop}
+use lib.ListN.{length}
 use Rattle.state.specs.declared.State.{State}
 use Rattle.packet.specs.declared.Answering.{Answering}
 use Rattle.packet.specs.declared.Answering.the-variants.{Sense, Inquiry, FormatCapacities, Capacity, Mode}
+use Rattle.answer.specs.Filling.{Filled, fillOf}
 use Rattle.answer.specs.Answers.{senseData, inquiryData, capacityData, capacitiesData, modeData}
-
--- how many bytes were put, and the buffer after
-pub record Filled : Type 0 where
-  pub count : ℕ
-  pub buffer : List ℕ
-
-abbrev pub filled : ℕ → List ℕ → Filled
-filled count buffer = record { count = count; buffer = buffer }
-
--- the first n bytes of a source are put at the start of a buffer, the rest of it is untouched
-abbrev pub fillOf : ℕ → List ℕ → List ℕ → Filled
-fillOf n source buffer = filled n (take n source ++ drop n buffer)
 
 -- "min(allocation, full size)"; a buffer shorter than that, which the drive never lends, is filled
 abbrev pub shareOf : List ℕ → ℕ → List ℕ → ℕ

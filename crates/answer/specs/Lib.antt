@@ -1,3 +1,4 @@
+pub mod Filling
 pub mod Bytes
 pub mod Answers
 pub mod Giving

@@ -4,7 +4,8 @@ use mathlib.Core.List.{List}
 use Prim.Native.Nat.{ℕ}
 use Rattle.state.specs.declared.State.{State}
 use Rattle.packet.specs.declared.Answering.{Answering}
-use Rattle.answer.specs.Giving.{filled, giveOf}
+use Rattle.answer.specs.Filling.{filled}
+use Rattle.answer.specs.Giving.{giveOf}
 
 -- "two answers allowed by the promise are equal": the count and the buffer
 abbrev pub OneGiving : Type 0

@@ -15,9 +15,9 @@ use Rattle.state.specs.declared.Transfer.the-variants.{Closed, Answer, Read, Wr
 use Rattle.state.specs.Sound.{openSoundB}
 use Rattle.state.proofs.Transfer.{the-type}
 use Rattle.state.proofs.Keeps.{parts}
-use Rattle.state.proofs.Opened.{OnDisc, in-buffer, on-disc, writes}
+use Rattle.state.proofs.Transfers.{OnDisc, in-buffer, on-disc, writes}
 use Rattle.drive.specs.World.{World}
-use Rattle.drive.specs.Places.{InBuffer, Span, WriteSpan}
+use Rattle.drive.specs.Places.{AnswerSpan, ReadSpan, WriteSpan}
 use Rattle.drive.specs.Moves.{unmovedOf}
 use Rattle.drive.specs.Feeds.{feedingOf, feedOf}
 use Rattle.drive.specs.Pulls.{pulled, pullingOf, pullOf}
@@ -25,12 +25,12 @@ use Rattle.drive.specs.Theorems.{Ready}
 use Rattle.drive.proofs.Houses.{ready-in}
 
 module _ (w : World) (r : Ready w) where
-  pub may-answer : (p : AnswerAt) → w .state .transfer ≡ Answer p → InBuffer p (w .buffer)
+  pub may-answer : (p : AnswerAt) → w .state .transfer ≡ Answer p → AnswerSpan p (w .buffer)
   may-answer p e =
       let i = in-buffer (w .state .disc) (w .state .protected) p (rw e at (parts (w .state) (r .sound) .opened)) in
       record { within = omega (arith, i, r .buffer) }
 
-  span : (p : DiscAt) → OnDisc (w .state .disc) p → Span (w .state .disc) p (w .disc)
+  span : (p : DiscAt) → OnDisc (w .state .disc) p → ReadSpan (w .state .disc) p (w .disc)
   span p on =
       let high = leb-true (w .state .disc) 4 (parts (w .state) (r .sound) .low) in
       record {
@@ -38,7 +38,7 @@ module _ (w : World) (r : Ready w) where
         within = omega (arith, on .within, r .disc);
       }
 
-  pub may-read : (p : DiscAt) → w .state .transfer ≡ Read p → Span (w .state .disc) p (w .disc)
+  pub may-read : (p : DiscAt) → w .state .transfer ≡ Read p → ReadSpan (w .state .disc) p (w .disc)
   unfolding openSoundB
   may-read p e = span p (on-disc (w .state .disc) p (rw e at (parts (w .state) (r .sound) .opened)))
 

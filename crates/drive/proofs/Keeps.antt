@@ -35,7 +35,7 @@ use Rattle.answer.proofs.Lengths.{give-count}
 use Rattle.drive.specs.House.{firstRefusal, insertTests, ejectTests}
 use Rattle.drive.specs.Events.{event, insertOf, ejectOf}
 use Rattle.drive.specs.World.{World}
-use Rattle.drive.specs.Commands.{openedOf, spanOf, routineOf, performedOf, obeyedOf, commandHouse, commandOf}
+use Rattle.drive.specs.Commands.{spanOf, routineOf, performedOf, obeyedOf, commandHouse, commandOf}
 use Rattle.drive.specs.Theorems.{PowerOnSound, InsertKeeps, EjectKeeps, CommandKeeps}
 use Rattle.drive.proofs.Houses.{noneB, let-pass, was-ready}
 
@@ -67,15 +67,6 @@ eject-keeps s e = here (noneB (firstRefusal (ejectTests s)))
 
 -- ---- what a command opens
 
-pub opened-sound : (number : ℕ) (prot : Bool) (left : ℕ) (t : Transfer) → ((left ≡ 0 → ⊥) → openSoundB number prot t ≡ true)
-    → openSoundB number prot (openedOf left t) ≡ true
-unfolding openSoundB
-opened-sound number prot left t some = here (eqb left 0) refl
-  where
-    here : (b : Bool) → eqb left 0 ≡ b → openSoundB number prot (cond b Closed t) ≡ true
-    here true q = refl
-    here false q = some (eqb-false left 0 q)
-
 module _ (number : ℕ) (is-in : eqb number 0 ≡ false) (from : BlockAddress) (blocks : ℕ) (within : pastEndB number from blocks ≡ false)
     (some : spanOf number from blocks .left ≡ 0 → ⊥) where
   on-disc : onDiscB number (spanOf number from blocks) ≡ true
@@ -97,30 +88,26 @@ module _ (number : ℕ) (is-in : eqb number 0 ≡ false) (from : BlockAddress) (
       rw (ne-eqb size 0 (λ e. some (rw e (mul-zero blocks))), ← add-mul (from .0) blocks size, mul-mod-left (from .0 + blocks) size)
 
 module _ (s : State) (p buffer : List ℕ) (sound : soundB s ≡ true) (room : length buffer ≤ bufferBytes) where
-  opening : (left : ℕ) (t : Transfer) → ((left ≡ 0 → ⊥) → openSoundB (s .disc) (s .protected) t ≡ true)
-      → soundB (passedOf s (s .motor) (openedOf left t)) ≡ true
-  opening left t some = passed-sound s (s .motor) (openedOf left t) sound (opened-sound (s .disc) (s .protected) left t some)
-
   routine-sound : (n : ℕ) (r : Routine) → (opensB r && eqb (s .disc) 0) ≡ false → (opensB r && pastEndB (s .disc) (addressOf p) n) ≡ false
       → (writesB r && s .protected) ≡ false → soundB (routineOf r s p n buffer .state) ≡ true
   unfolding openSoundB
-  routine-sound n Nothing d g h = passed-sound s (s .motor) Closed sound refl
-  routine-sound n Motor d g h = passed-sound s (eqb (byteAt p 4 % 2) 1) Closed sound refl
+  routine-sound n Nothing d g h = passed-sound s sound Closed (λ _. refl) (s .motor)
+  routine-sound n Motor d g h = passed-sound s sound Closed (λ _. refl) (eqb (byteAt p 4 % 2) 1)
   routine-sound n (Answer a) d g h =
       let left = giveOf a s (byteAt p 2 / 64) n buffer .count in
-      opening left (AnswerFrom (record { at = 0; left = left }))
+      passed-sound s sound (AnswerFrom (record { at = 0; left = left }))
       (λ some.
       rw (
         lt-ltb 0 left (omega (arith, some)),
         le-leb (0 + left) bufferBytes (omega (arith, give-count a s (byteAt p 2 / 64) n buffer)),
       ))
+      (s .motor)
   routine-sound n Read d g h =
-      let span = spanOf (s .disc) (addressOf p) n in
-      opening (span .left) (ReadFrom span) (λ some. on-disc (s .disc) d (addressOf p) n g some)
+      passed-sound s sound (ReadFrom (spanOf (s .disc) (addressOf p) n)) (λ some. on-disc (s .disc) d (addressOf p) n g some) (s .motor)
   routine-sound n Write d g h =
-      let span = spanOf (s .disc) (addressOf p) n in
-      opening (span .left) (WriteTo span)
+      passed-sound s sound (WriteTo (spanOf (s .disc) (addressOf p) n))
       (λ some. rw (on-disc (s .disc) d (addressOf p) n g some, on-block (s .disc) d (addressOf p) n g some, h))
+      (s .motor)
 
   performed-sound : (code : ℕ) (rule : Rule) → ruleOf code ≡ Base rule → passesB (firstOf (checksOf s rule p) rule) ≡ true
       → soundB (performedOf s rule p buffer .state) ≡ true

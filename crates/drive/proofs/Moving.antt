@@ -14,58 +14,46 @@ use Rattle.state.specs.declared.Transfer.the-variants.{Closed, Answer, Read, Wr
 use Rattle.state.specs.States.{movedOf}
 use Rattle.state.specs.Sound.{openSoundB, soundB}
 use Rattle.state.proofs.Keeps.{parts, moved-sound}
-use Rattle.state.proofs.Opened.{OnDisc, EndsOnBlock, in-buffer, answer-sound, on-disc, on-disc-sound, writes, writes-sound}
+use Rattle.state.proofs.Transfers.{OnDisc, EndsOnBlock, in-buffer, answer-sound, on-disc, on-disc-sound, writes, writes-sound}
 use Rattle.drive.specs.World.{World}
-use Rattle.drive.specs.Commands.{openedOf}
-use Rattle.drive.specs.Moves.{moveHouse, unmovedOf, furtherOf}
+use Rattle.drive.specs.Moves.{moveHouse, unmovedOf, answerAfter, discAfter}
 use Rattle.drive.specs.Feeds.{takenOf, feedingOf, feedOf}
 use Rattle.drive.specs.Pulls.{pulled, pullingOf, pullOf}
 use Rattle.drive.specs.Theorems.{FeedKeeps, PullKeeps}
 use Rattle.drive.proofs.Houses.{noneB}
-use Rattle.drive.proofs.Keeps.{opened-sound}
 
--- ---- n bytes further on, what is left is where it was
+-- ---- n bytes further on, what is left ends where it did
 
 module _ (number : ℕ) (p : DiscAt) (n : ℕ) (some : p .left - n ≡ 0 → ⊥) where
-  further-on : OnDisc number p → OnDisc number (furtherOf p n)
-  further-on d = record { is-in = d .is-in; some = omega arith; within = omega (arith, d .within) }
+  still-on : OnDisc number p → OnDisc number (discAfter p n)
+  still-on d = record { is-in = d .is-in; some = omega arith; within = omega (arith, d .within) }
 
-  further-ends : EndsOnBlock number p → EndsOnBlock number (furtherOf p n)
-  further-ends e =
+  still-ends : EndsOnBlock number p → EndsOnBlock number (discAfter p n)
+  still-ends e =
       let same : p .at .0 + n + (p .left - n) ≡ p .at .0 + p .left = omega arith in
       record { blocks = e .blocks; whole = rw same (e .whole) }
 
--- ---- each transfer, n bytes further on
-
 module _ (s : State) (sound : soundB s ≡ true) (n : ℕ) where
-  going-on : (left : ℕ) (t : Transfer) → ((left ≡ 0 → ⊥) → openSoundB (s .disc) (s .protected) t ≡ true)
-      → soundB (movedOf s (openedOf left t)) ≡ true
-  going-on left t some = moved-sound s (openedOf left t) sound (opened-sound (s .disc) (s .protected) left t some)
-
-  answer-on : (p : AnswerAt) → openSoundB (s .disc) (s .protected) (Answer p) ≡ true
-      → soundB (movedOf s (openedOf (p .left - n) (Answer (record { at = p .at + n; left = p .left - n })))) ≡ true
+  answer-on : (p : AnswerAt) → openSoundB (s .disc) (s .protected) (Answer p) ≡ true → soundB (movedOf s (Answer (answerAfter p n))) ≡ true
   answer-on p e =
-      let i = in-buffer (s .disc) (s .protected) p e in
-      going-on (p .left - n) (Answer (record { at = p .at + n; left = p .left - n }))
-      (λ some. answer-sound (s .disc) (s .protected) (record { at = p .at + n; left = p .left - n })
-      (record { some = omega (arith, some); within = omega (arith, some, i .within) }))
+      let within = in-buffer (s .disc) (s .protected) p e .within in
+      moved-sound s sound (Answer (answerAfter p n))
+      (λ some. answer-sound (s .disc) (s .protected) (answerAfter p n) (record { some = omega (arith, some); within = omega (arith, some) }))
 
-  read-on : (p : DiscAt) → openSoundB (s .disc) (s .protected) (Read p) ≡ true
-      → soundB (movedOf s (openedOf (p .left - n) (Read (furtherOf p n)))) ≡ true
+  read-on : (p : DiscAt) → openSoundB (s .disc) (s .protected) (Read p) ≡ true → soundB (movedOf s (Read (discAfter p n))) ≡ true
   unfolding openSoundB
   read-on p e =
-      going-on (p .left - n) (Read (furtherOf p n))
-      (λ some. on-disc-sound (s .disc) (furtherOf p n) (further-on (s .disc) p n some (on-disc (s .disc) p e)))
+      moved-sound s sound (Read (discAfter p n))
+      (λ some. on-disc-sound (s .disc) (discAfter p n) (still-on (s .disc) p n some (on-disc (s .disc) p e)))
 
-  write-on : (p : DiscAt) → openSoundB (s .disc) (s .protected) (Write p) ≡ true
-      → soundB (movedOf s (openedOf (p .left - n) (Write (furtherOf p n)))) ≡ true
+  write-on : (p : DiscAt) → openSoundB (s .disc) (s .protected) (Write p) ≡ true → soundB (movedOf s (Write (discAfter p n))) ≡ true
   write-on p e =
       let o = writes (s .disc) (s .protected) p e in
-      going-on (p .left - n) (Write (furtherOf p n))
-      (λ some. writes-sound (s .disc) (s .protected) (furtherOf p n)
+      moved-sound s sound (Write (discAfter p n))
+      (λ some. writes-sound (s .disc) (s .protected) (discAfter p n)
       (record {
-        on = further-on (s .disc) p n some (o .on);
-        ends = further-ends (s .disc) p n some (o .ends);
+        on = still-on (s .disc) p n some (o .on);
+        ends = still-ends (s .disc) p n some (o .ends);
         bare = o .bare;
       }))
 

@@ -5,7 +5,7 @@ use Prim.Native.Nat.{ℕ, _≤_, _+_, _-_, min}
 use native.Mathlib.Omega.{arith}
 use lib.ListN.{length, take, drop, length-drop}
 use lib.Seq.{length-take-le, take-take, take-at, drop-at, take-add, drop-drop, sets-eq}
-use Rattle.answer.specs.Giving.{fillOf}
+use Rattle.answer.specs.Filling.{fillOf}
 use Rattle.drive.proofs.Parts.{put-back}
 
 -- a copy of the source's part from `at` to `end` fills as the source from `at` on does

@@ -5,7 +5,7 @@ use Prim.Native.Nat.{ℕ, _<_, _≤_, _+_, _-_, _%_, min}
 use native.Mathlib.Omega.{arith}
 use lib.ListN.{length, take, drop, length-drop}
 use lib.Seq.{paste, sets, length-take-le}
-use Rattle.answer.specs.Giving.{Filled, filled, fillOf}
+use Rattle.answer.specs.Filling.{Filled, filled, fillOf}
 use Rattle.drive.specs.Feeds.{writing, feedBytes, taken}
 use Rattle.drive.proofs.Blocks.{Share}
 use Rattle.drive.proofs.Parts.{put-back}
@@ -28,7 +28,7 @@ module _ (b at m : ℕ) (s : Share b at m) (piece buffer : List ℕ) (held : b �
       let l : length part ≡ b - at % b = length-take-le (b - at % b) (drop (at % b) buffer) (simp length-drop (omega arith)) in
       let n = ap (λ (f : Filled). f .count) e in
       let size = length-take-le count piece (omega arith) in
-      let start : last ≡ take count piece ++ drop (length (take count piece)) part = rw (size, n) (ap (λ (f : Filled). f .buffer) e) in
+      let start : last ≡ take count piece ++ drop (length (take count piece)) part = rw (size, n) (ap (λ (f : Filled). f .bytes) e) in
       record {
         share = rw l at n;
         size = size;

@@ -18,14 +18,11 @@ use Rattle.packet.specs.declared.Verdict.{Verdict}
 use Rattle.packet.specs.declared.Verdict.the-variants.{Passes, Fails}
 use Rattle.packet.specs.declared.Routine.{Routine}
 use Rattle.packet.specs.declared.Routine.the-variants.{Nothing, Motor, Answer, Read, Write}
-use Rattle.answer.specs.Giving.{Filled, giveOf}
+use Rattle.answer.specs.Filling.{Filled}
+use Rattle.answer.specs.Giving.{giveOf}
 use Rattle.drive.specs.declared.CommandReply.{CommandReply}
 use Rattle.drive.specs.World.{World, world}
 use Rattle.drive.specs.House.{numberOf, firstRefusal, commandTests}
-
--- "with 0 bytes it stays closed", "length 0 passes and stays closed"
-abbrev pub openedOf : ℕ → Transfer → Transfer
-openedOf left transfer = cond (eqb left 0) Closed transfer
 
 -- the bytes of so many blocks from an address
 unfoldable pub spanOf : ℕ → BlockAddress → ℕ → DiscAt
@@ -41,11 +38,11 @@ after state buffer = record { state = state; buffer = buffer }
 
 -- "the transfer opens on them"
 abbrev pub answeredOf : State → Filled → After
-answeredOf s f = after (passedOf s (s .motor) (openedOf (f .count) (AnswerFrom (record { at = 0; left = f .count })))) (f .buffer)
+answeredOf s f = after (passedOf s (s .motor) (AnswerFrom (record { at = 0; left = f .count }))) (f .bytes)
 
 -- a transfer of so many blocks from the packet's address
 abbrev pub movingOf : (DiscAt → Transfer) → State → List ℕ → ℕ → State
-movingOf way s p n = let span = spanOf (s .disc) (addressOf p) n in passedOf s (s .motor) (openedOf (span .left) (way span))
+movingOf way s p n = passedOf s (s .motor) (way (spanOf (s .disc) (addressOf p) n))
 
 -- "1B sets the motor flag from byte 4 bit 0"; "28 and A8 (each a READ) open a read, 2A, 2E and AA (each a WRITE) a write";
 -- "00, 01, 1E, 2B, 2F pass and do nothing more"

@@ -10,7 +10,7 @@ use Rattle.state.specs.declared.DiscAt.{DiscAt}
 use Rattle.state.specs.declared.Transfer.{Transfer}
 use Rattle.state.specs.declared.Transfer.the-variants.{Closed, Answer, Read, Write}
 use Rattle.drive.specs.World.{World, world}
-use Rattle.drive.specs.Moves.{Moved, moveHouse, unmovedOf, onwardOf, furtherOf}
+use Rattle.drive.specs.Moves.{Moved, moveHouse, unmovedOf, onwardOf, discAfter}
 
 -- the place of the next byte, the block buffer and the disc
 pub record Writing : Type 0 where
@@ -47,7 +47,7 @@ takenOf number n w piece = taken n (feedBytes (blockBytes number) w (take n piec
 -- the world after a write took bytes
 abbrev pub fedOf : World → DiscAt → Taken → Moved
 fedOf w p t =
-    onwardOf (t .count) (p .left - t .count) (Write (furtherOf p (t .count))) (world (w .state) (t .after .buffer) (t .after .disc))
+    onwardOf (t .count) (Write (discAfter p (t .count))) (world (w .state) (t .after .buffer) (t .after .disc))
 
 -- "A feed takes the first min(piece, left) bytes; the remainder of the piece is the caller's, reported by the count."; "A feed without
 -- an open write .. gives count 0 and changes nothing."

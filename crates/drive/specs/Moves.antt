@@ -3,12 +3,12 @@ use mathlib.Core.List.{List}
 use Prim.Native.Nat.{ℕ, _+_, _-_}
 use lib.ListN.{length}
 use Rattle.state.specs.States.{movedOf}
+use Rattle.state.specs.declared.AnswerAt.{AnswerAt}
 use Rattle.state.specs.declared.DiscAt.{DiscAt}
 use Rattle.state.specs.declared.Transfer.{Transfer}
 use Rattle.drive.specs.declared.MoveReply.{MoveReply}
 use Rattle.drive.specs.World.{World, world}
 use Rattle.drive.specs.House.{numberOf, firstRefusal, lentTests}
-use Rattle.drive.specs.Commands.{openedOf}
 
 -- the paper's house number, how many bytes moved, and the world after
 pub record Moved : Type 0 where
@@ -27,10 +27,13 @@ moveHouse w = firstRefusal (lentTests (w .state) (length (w .buffer)) (length (w
 abbrev pub unmovedOf : ℕ → World → Moved
 unmovedOf house w = record { house = house; count = 0; world = w }
 
--- n bytes have moved, and so many are left of the transfer: "At 0 left the transfer closes."
-abbrev pub onwardOf : ℕ → ℕ → Transfer → World → Moved
-onwardOf n left t w = record { house = 0; count = n; world = world (movedOf (w .state) (openedOf left t)) (w .buffer) (w .disc) }
+-- n bytes have moved: the transfer that is left, and nothing else of the state
+abbrev pub onwardOf : ℕ → Transfer → World → Moved
+onwardOf n t w = record { house = 0; count = n; world = world (movedOf (w .state) t) (w .buffer) (w .disc) }
 
--- a read or a write, n bytes further on
-abbrev pub furtherOf : DiscAt → ℕ → DiscAt
-furtherOf p n = record { at = record { 0 = p .at .0 + n }; left = p .left - n }
+-- an answer, and a read or a write, n bytes further on
+abbrev pub answerAfter : AnswerAt → ℕ → AnswerAt
+answerAfter p n = record { at = p .at + n; left = p .left - n }
+
+abbrev pub discAfter : DiscAt → ℕ → DiscAt
+discAfter p n = record { at = record { 0 = p .at .0 + n }; left = p .left - n }

@@ -1,16 +1,14 @@
 -- Paper 01, "Disc transfers": a pull.
 use mathlib.Core.Bool.{cond}
 use mathlib.Core.List.{List}
-use Prim.Native.Nat.{ℕ, _+_, _-_, min}
+use Prim.Native.Nat.{ℕ, min}
 use lib.Dec.{eqb}
 use lib.ListN.{length, drop}
-use Rattle.state.specs.declared.AnswerAt.{AnswerAt}
-use Rattle.state.specs.declared.DiscAt.{DiscAt}
 use Rattle.state.specs.declared.Transfer.{Transfer}
 use Rattle.state.specs.declared.Transfer.the-variants.{Closed, Answer, Read, Write}
-use Rattle.answer.specs.Giving.{Filled, fillOf}
+use Rattle.answer.specs.Filling.{Filled, fillOf}
 use Rattle.drive.specs.World.{World}
-use Rattle.drive.specs.Moves.{Moved, moveHouse, unmovedOf, onwardOf, furtherOf}
+use Rattle.drive.specs.Moves.{Moved, moveHouse, unmovedOf, onwardOf, answerAfter, discAfter}
 
 -- and the caller's buffer
 pub record Pulled : Type 0 where
@@ -26,18 +24,14 @@ abbrev pub servedOf : List ℕ → ℕ → List ℕ → Filled
 servedOf source left out = fillOf (min (length out) left) source out
 
 -- ".. disc and block buffer"
-abbrev pub answerPulledOf : World → AnswerAt → Filled → Pulled
-answerPulledOf w p f =
-    pulled (onwardOf (f .count) (p .left - f .count) (Answer (record { at = p .at + f .count; left = p .left - f .count })) w) (f .buffer)
-
-abbrev pub readPulledOf : World → DiscAt → Filled → Pulled
-readPulledOf w p f = pulled (onwardOf (f .count) (p .left - f .count) (Read (furtherOf p (f .count))) w) (f .buffer)
+abbrev pub pulledOf : (ℕ → Transfer) → World → Filled → Pulled
+pulledOf after w f = pulled (onwardOf (f .count) (after (f .count)) w) (f .bytes)
 
 -- "a pull without an open read or answer, gives count 0 and changes nothing"
 abbrev pub pullingOf : Transfer → World → List ℕ → Pulled
 pullingOf Closed w out = pulled (unmovedOf 0 w) out
-pullingOf (Answer p) w out = answerPulledOf w p (servedOf (drop (p .at) (w .buffer)) (p .left) out)
-pullingOf (Read p) w out = readPulledOf w p (servedOf (drop (p .at .0) (w .disc)) (p .left) out)
+pullingOf (Answer p) w out = pulledOf (λ n. Answer (answerAfter p n)) w (servedOf (drop (p .at) (w .buffer)) (p .left) out)
+pullingOf (Read p) w out = pulledOf (λ n. Read (discAfter p n)) w (servedOf (drop (p .at .0) (w .disc)) (p .left) out)
 pullingOf (Write p) w out = pulled (unmovedOf 0 w) out
 
 unfoldable pub pullOf : World → List ℕ → Pulled

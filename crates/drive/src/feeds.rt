@@ -1,21 +1,22 @@
 // Feeding: bytes of a piece go to the block buffer, and each block that they complete goes to the disc.
-use crate::moves::copy;
+use crate::copies::copy;
 use disc::BytePlace;
 use state::DiscAt;
 ghost use mathlib.Core.Path.{_≡_};
-ghost use Prim.Native.Nat.{_+_, _-_, _%_, min};
+ghost use Prim.Native.Nat.{_+_, min};
 ghost use lib.ListN.{length};
 ghost use lib.Seq.{paste};
 ghost use Rattle.disc.specs.Formats.{bufferBytes, blockBytes};
-ghost use Rattle.drive.specs.Places.{Block, Place, WriteSpan};
+ghost use Rattle.drive.specs.Places.{Block, Place, WriteSpan, restOf};
 ghost use Rattle.drive.specs.Feeds.{writing, taken, takenOf};
 
-// Copies the block at the start of `buffer` to its place on the disc.
-fn store_block(buffer: &[u8], place: BytePlace, number: u8, disc: &mut [u8])
-    requires { ⌜ Block number (place .0) (now buffer) (now disc) ⌝ }
-    ensures { λ _. ⌜ now (disc .exit) ≡ paste (now (disc .entry)) (place .0) (now (buffer .entry)) (blockBytes number) ⌝ }
+// Copies a complete block from the block buffer to the disc, where its first byte stands. The format is asked at every byte: this
+// leaf alone changes when the length is taken once.
+fn store_block(buffer: &[u8], first: BytePlace, number: u8, disc: &mut [u8])
+    requires { ⌜ Block number (first .0) (now buffer) (now disc) ⌝ }
+    ensures { λ _. ⌜ now (disc .exit) ≡ paste (now (disc .entry)) (first .0) (now (buffer .entry)) (blockBytes number) ⌝ }
 {
-    let at = place.0;
+    let at = first.0;
     let mut i = 0;
     while i < disc::block_bytes(number) {
         disc[at + i] = buffer[i];
@@ -23,7 +24,7 @@ fn store_block(buffer: &[u8], place: BytePlace, number: u8, disc: &mut [u8])
     }
 }
 
-// Takes a piece's first bytes, at most the rest of the block at `place`; where they complete it, it goes to the disc.
+// Takes the first min(piece, rest of the block) bytes; a block that they complete goes to the disc.
 fn feed_share(
     piece: &[u8],
     place: BytePlace,
@@ -34,19 +35,19 @@ fn feed_share(
     requires { ⌜ Place number (place .0) (now disc) ⌝ }
     requires { ⌜ length (now buffer) ≡ bufferBytes ⌝ }
     ensures { λ r. ⌜ taken r (writing (place .0 + r) (now (buffer .exit)) (now (disc .exit)))
-        ≡ takenOf number (min (length (now (piece .entry))) (blockBytes number - place .0 % blockBytes number)) (writing (place .0) (now (buffer .entry)) (now (disc .entry))) (now (piece .entry)) ⌝ }
+        ≡ takenOf number (min (length (now (piece .entry))) (restOf number (place .0))) (writing (place .0) (now (buffer .entry)) (now (disc .entry))) (now (piece .entry)) ⌝ }
 {
     let block = disc::block_bytes(number);
     let at = place.0;
-    let start = at % block;
-    let count = copy(piece, &mut buffer[start..block]);
-    if start + count == block {
-        store_block(buffer, BytePlace(at - start), number, disc);
+    let within = at % block;
+    let count = copy(piece, &mut buffer[within..block]);
+    if within + count == block {
+        store_block(buffer, BytePlace(at - within), number, disc);
     }
     count
 }
 
-// Takes a piece's first bytes, as many as it has and as are left, block by block.
+// Takes the first min(piece, left) bytes, block by block.
 pub(crate) fn feed_blocks(
     piece: &[u8],
     from: DiscAt,

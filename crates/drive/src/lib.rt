@@ -1,17 +1,18 @@
 // The box: its entries, each with its house refusals. An entry is answered whatever it is lent.
+mod copies;
 mod feeds;
-mod moves;
 mod pulls;
 
 ghost use mathlib.Core.Path.{_≡_};
-ghost use Rattle.state.specs.States.{powerOn, movedOf};
-ghost use Rattle.drive.specs.declared.House.the-variants.{Accepted};
+ghost use Prim.Native.Nat.{ℕ};
+ghost use mathlib.Core.List.{List};
+ghost use Rattle.state.specs.States.{powerOn};
 ghost use Rattle.drive.specs.House.{numberOf, firstRefusal, lentTests, commandTests, insertTests, ejectTests};
 ghost use Rattle.drive.specs.Events.{happened, unlessRefused, insertOf, ejectOf};
 ghost use Rattle.drive.specs.World.{world};
-ghost use Rattle.drive.specs.Commands.{openedOf, spanOf, after, performedOf, commanded, commandOf};
+ghost use Rattle.drive.specs.Commands.{spanOf, after, performedOf, commanded, commandOf};
 ghost use Rattle.drive.specs.Places.{Ahead};
-ghost use Rattle.drive.specs.Moves.{moved, furtherOf};
+ghost use Rattle.drive.specs.Moves.{moved, unmovedOf, onwardOf, answerAfter, discAfter};
 ghost use Rattle.drive.specs.Feeds.{feedOf};
 ghost use Rattle.drive.specs.Pulls.{pulled, pullOf};
 use disc::BlockAddress;
@@ -166,16 +167,6 @@ fn command_house(state: State, packet: usize, buffer: usize, disc: usize) -> Hou
     lent_house(state, buffer, disc)
 }
 
-// With no byte left a transfer is closed.
-fn opened(left: usize, transfer: Transfer) -> Transfer
-    ensures { λ r. ⌜ r ≡ openedOf left transfer ⌝ }
-{
-    if left == 0 {
-        return Transfer::Closed;
-    }
-    transfer
-}
-
 // The bytes of so many blocks from an address.
 fn span(number: u8, from: BlockAddress, blocks: u32) -> DiscAt
     ensures { λ r. ⌜ r ≡ spanOf number from blocks ⌝ }
@@ -201,19 +192,11 @@ fn performed(state: State, rule: Rule, packet: &[u8], buffer: &mut [u8]) -> Stat
         Routine::Answer(answering) => {
             let control = packet::byte(packet, 2) / 64;
             let left = answer::give(answering, state, control, length as usize, buffer);
-            let transfer = opened(left, Transfer::Answer(AnswerAt { at: 0, left: left }));
-            state::passed(state, state.motor, transfer)
+            let from = AnswerAt { at: 0, left: left };
+            state::passed(state, state.motor, Transfer::Answer(from))
         }
-        Routine::Read => state::passed(
-            state,
-            state.motor,
-            opened(blocks.left, Transfer::Read(blocks)),
-        ),
-        Routine::Write => state::passed(
-            state,
-            state.motor,
-            opened(blocks.left, Transfer::Write(blocks)),
-        ),
+        Routine::Read => state::passed(state, state.motor, Transfer::Read(blocks)),
+        Routine::Write => state::passed(state, state.motor, Transfer::Write(blocks)),
     }
 }
 
@@ -249,9 +232,9 @@ pub fn command(state: State, packet: &[u8], buffer: &mut [u8], disc: &[u8]) -> C
     }
 }
 
-// A call that moves nothing.
+// The reply of a call that moves nothing.
 fn unmoved(house: House, state: State) -> MoveReply
-    ensures { λ r. ⌜ r ≡ record { house = house; count = 0; state = state } ⌝ }
+    ensures { λ r. ⌜ ((buffer disc : List ℕ) → moved r buffer disc ≡ unmovedOf (numberOf house) (world state buffer disc)) ⌝ }
 {
     MoveReply {
         house: house,
@@ -260,22 +243,32 @@ fn unmoved(house: House, state: State) -> MoveReply
     }
 }
 
-// A call that moved bytes: what is left of the transfer stays open.
-fn onward(state: State, count: usize, left: usize, transfer: Transfer) -> MoveReply
-    ensures { λ r. ⌜ r ≡ record { house = Accepted; count = count; state = movedOf state (openedOf left transfer) } ⌝ }
+// The reply of a call that has moved `count` bytes, and what is left of the transfer.
+fn onward(state: State, count: usize, transfer: Transfer) -> MoveReply
+    ensures { λ r. ⌜ ((buffer disc : List ℕ) → moved r buffer disc ≡ onwardOf count transfer (world state buffer disc)) ⌝ }
 {
-    let next = opened(left, transfer);
     MoveReply {
         house: House::Accepted,
         count: count,
-        state: state::moved(state, next),
+        state: state::moved(state, transfer),
     }
 }
 
-// A read or a write, so many bytes further on.
-fn further(from: DiscAt, count: usize) -> DiscAt
-    requires { ⌜ Ahead from count ⌝ }
-    ensures { λ r. ⌜ r ≡ furtherOf from count ⌝ }
+// An answer, `count` bytes further on.
+fn answer_after(from: AnswerAt, count: usize) -> AnswerAt
+    requires { ⌜ Ahead (from .at) (from .left) count ⌝ }
+    ensures { λ r. ⌜ r ≡ answerAfter from count ⌝ }
+{
+    AnswerAt {
+        at: from.at + count,
+        left: from.left - count,
+    }
+}
+
+// A read or a write, `count` bytes further on.
+fn disc_after(from: DiscAt, count: usize) -> DiscAt
+    requires { ⌜ Ahead (from .at .0) (from .left) count ⌝ }
+    ensures { λ r. ⌜ r ≡ discAfter from count ⌝ }
 {
     DiscAt {
         at: BytePlace(from.at.0 + count),
@@ -284,7 +277,8 @@ fn further(from: DiscAt, count: usize) -> DiscAt
 }
 
 pub fn feed(state: State, piece: &[u8], buffer: &mut [u8], disc: &mut [u8]) -> MoveReply
-    ensures { λ r. ⌜ moved r (now (buffer .exit)) (now (disc .exit)) ≡ feedOf (world state (now (buffer .entry)) (now (disc .entry))) (now (piece .entry)) ⌝ }
+    ensures { λ r. ⌜ moved r (now (buffer .exit)) (now (disc .exit))
+        ≡ feedOf (world state (now (buffer .entry)) (now (disc .entry))) (now (piece .entry)) ⌝ }
 {
     let house = lent_house(state, buffer.len(), disc.len());
     if number_of(house) != 0 {
@@ -294,15 +288,15 @@ pub fn feed(state: State, piece: &[u8], buffer: &mut [u8], disc: &mut [u8]) -> M
     match transfer {
         Transfer::Write(from) => {
             let count = feeds::feed_blocks(piece, from, state.disc, buffer, disc);
-            let next = further(from, count);
-            onward(state, count, next.left, Transfer::Write(next))
+            onward(state, count, Transfer::Write(disc_after(from, count)))
         }
         _ => unmoved(House::Accepted, state),
     }
 }
 
 pub fn pull(state: State, out: &mut [u8], buffer: &[u8], disc: &[u8]) -> MoveReply
-    ensures { λ r. ⌜ pulled (moved r (now (buffer .entry)) (now (disc .entry))) (now (out .exit)) ≡ pullOf (world state (now (buffer .entry)) (now (disc .entry))) (now (out .entry)) ⌝ }
+    ensures { λ r. ⌜ pulled (moved r (now (buffer .entry)) (now (disc .entry))) (now (out .exit))
+        ≡ pullOf (world state (now (buffer .entry)) (now (disc .entry))) (now (out .entry)) ⌝ }
 {
     let house = lent_house(state, buffer.len(), disc.len());
     if number_of(house) != 0 {
@@ -312,16 +306,11 @@ pub fn pull(state: State, out: &mut [u8], buffer: &[u8], disc: &[u8]) -> MoveRep
     match transfer {
         Transfer::Answer(from) => {
             let count = pulls::pull_answer(from, buffer, out);
-            let next = AnswerAt {
-                at: from.at + count,
-                left: from.left - count,
-            };
-            onward(state, count, next.left, Transfer::Answer(next))
+            onward(state, count, Transfer::Answer(answer_after(from, count)))
         }
         Transfer::Read(from) => {
             let count = pulls::pull_blocks(from, state.disc, disc, out);
-            let next = further(from, count);
-            onward(state, count, next.left, Transfer::Read(next))
+            onward(state, count, Transfer::Read(disc_after(from, count)))
         }
         _ => unmoved(House::Accepted, state),
     }

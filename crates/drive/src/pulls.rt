@@ -1,19 +1,18 @@
-// Pulling: the bytes that are left go to the start of a lent buffer.
-use crate::moves::copy;
+// Pulling: bytes of an answer or of the disc go to the start of a lent buffer.
+use crate::copies::copy;
 use disc::BytePlace;
 use state::AnswerAt;
 use state::DiscAt;
 ghost use mathlib.Core.Path.{_≡_};
-ghost use Prim.Native.Nat.{_-_, _%_, min};
+ghost use Prim.Native.Nat.{min};
 ghost use lib.ListN.{length, drop};
-ghost use Rattle.disc.specs.Formats.{blockBytes};
-ghost use Rattle.answer.specs.Giving.{filled, fillOf};
-ghost use Rattle.drive.specs.Places.{Place, Span, InBuffer};
+ghost use Rattle.answer.specs.Filling.{filled, fillOf};
+ghost use Rattle.drive.specs.Places.{Place, AnswerSpan, ReadSpan, restOf};
 ghost use Rattle.drive.specs.Pulls.{servedOf};
 
-// Fills the first bytes of `out` from the answer in the block buffer, as many as it has and as are left.
+// Fills the first min(out, left) bytes of `out` from the block buffer.
 pub(crate) fn pull_answer(from: AnswerAt, buffer: &[u8], out: &mut [u8]) -> usize
-    requires { ⌜ InBuffer from (now buffer) ⌝ }
+    requires { ⌜ AnswerSpan from (now buffer) ⌝ }
     ensures { λ r. ⌜ filled r (now (out .exit)) ≡ servedOf (drop (from .at) (now (buffer .entry))) (from .left) (now (out .entry)) ⌝ }
 {
     let at = from.at;
@@ -21,10 +20,10 @@ pub(crate) fn pull_answer(from: AnswerAt, buffer: &[u8], out: &mut [u8]) -> usiz
     copy(&buffer[at..end], out)
 }
 
-// Fills the first bytes of `out` from `place` on, at most to the end of its block.
+// Fills the first min(rest of the block, out) bytes of `out`.
 fn pull_share(place: BytePlace, number: u8, disc: &[u8], out: &mut [u8]) -> usize
     requires { ⌜ Place number (place .0) (now disc) ⌝ }
-    ensures { λ r. ⌜ filled r (now (out .exit)) ≡ fillOf (min (blockBytes number - place .0 % blockBytes number) (length (now (out .entry)))) (drop (place .0) (now (disc .entry))) (now (out .entry)) ⌝ }
+    ensures { λ r. ⌜ filled r (now (out .exit)) ≡ fillOf (min (restOf number (place .0)) (length (now (out .entry)))) (drop (place .0) (now (disc .entry))) (now (out .entry)) ⌝ }
 {
     let block = disc::block_bytes(number);
     let at = place.0;
@@ -33,9 +32,9 @@ fn pull_share(place: BytePlace, number: u8, disc: &[u8], out: &mut [u8]) -> usiz
     copy(&disc[at..end], out)
 }
 
-// Fills the first bytes of `out`, as many as it has and as are left, block by block.
+// Fills the first min(out, left) bytes of `out` from the disc, block by block.
 pub(crate) fn pull_blocks(from: DiscAt, number: u8, disc: &[u8], out: &mut [u8]) -> usize
-    requires { ⌜ Span number from (now disc) ⌝ }
+    requires { ⌜ ReadSpan number from (now disc) ⌝ }
     ensures { λ r. ⌜ filled r (now (out .exit)) ≡ servedOf (drop (from .at .0) (now (disc .entry))) (from .left) (now (out .entry)) ⌝ }
 {
     let at = from.at.0;

@@ -1,8 +1,8 @@
 -- Every step that the state takes keeps it sound. Assumes nothing.
 use mathlib.Core.Path.{_≡_, refl}
-use mathlib.Core.Bool.{Bool, true, not, _&&_, _||_, false≢true}
+use mathlib.Core.Bool.{Bool, true, false, cond, not, _&&_, _||_, false≢true}
 use Prim.Native.Nat.{ℕ, _≤_}
-use borrow.Author.Tests.{le-leb, ne-eqb}
+use borrow.Author.Tests.{eqb-false, le-leb, ne-eqb}
 use lib.Dec.{eqb, leb}
 use Rattle.disc.proofs.Truth.{both}
 use Rattle.state.specs.declared.Sense.{Sense}
@@ -14,7 +14,7 @@ use Rattle.state.specs.declared.Failure.the-variants.{Pending, Found}
 use Rattle.state.specs.declared.Transfer.{Transfer}
 use Rattle.state.specs.declared.Transfer.the-variants.{Closed, Answer, Read, Write}
 use Rattle.state.specs.Senses.{senseOf, namedB}
-use Rattle.state.specs.States.{senseAfter, insertedOf, ejectedOf, failedOf, passedOf, movedOf}
+use Rattle.state.specs.States.{leftOf, openedOf, senseAfter, insertedOf, ejectedOf, failedOf, passedOf, movedOf}
 use Rattle.state.specs.Sound.{onDiscB, openSoundB, soundB}
 
 -- the clauses of soundness
@@ -60,14 +60,25 @@ failed-disc s (Pending PowerOn) = refl
 failed-disc s (Pending Change) = refl
 failed-disc s (Found fault) = refl
 
-pub passed-sound : (s : State) (motor : Bool) (t : Transfer) → soundB s ≡ true → openSoundB (s .disc) (s .protected) t ≡ true
-    → soundB (passedOf s motor t) ≡ true
-unfolding soundB passedOf namedB
-passed-sound s motor t e opened = let p = parts s e in rw (p .low, p .bare, opened)
+-- ---- a passed command and moved bytes: what is left of a transfer is open
 
-pub moved-sound : (s : State) (t : Transfer) → soundB s ≡ true → openSoundB (s .disc) (s .protected) t ≡ true → soundB (movedOf s t) ≡ true
-unfolding soundB movedOf
-moved-sound s t e opened = let p = parts s e in rw (p .low, p .bare, p .named, opened)
+opened-sound : (number : ℕ) (prot : Bool) (t : Transfer) → ((leftOf t ≡ 0 → ⊥) → openSoundB number prot t ≡ true)
+    → openSoundB number prot (openedOf t) ≡ true
+unfolding openSoundB
+opened-sound number prot t some = here (eqb (leftOf t) 0) refl
+  where
+    here : (b : Bool) → eqb (leftOf t) 0 ≡ b → openSoundB number prot (cond b Closed t) ≡ true
+    here true q = refl
+    here false q = some (eqb-false (leftOf t) 0 q)
+
+module _ (s : State) (e : soundB s ≡ true) (t : Transfer) (some : (leftOf t ≡ 0 → ⊥) → openSoundB (s .disc) (s .protected) t ≡ true) where
+  pub passed-sound : (motor : Bool) → soundB (passedOf s motor t) ≡ true
+  unfolding soundB passedOf namedB
+  passed-sound motor = let p = parts s e in rw (p .low, p .bare, opened-sound (s .disc) (s .protected) t some)
+
+  pub moved-sound : soundB (movedOf s t) ≡ true
+  unfolding soundB movedOf
+  moved-sound = let p = parts s e in rw (p .low, p .bare, p .named, opened-sound (s .disc) (s .protected) t some)
 
 -- a transfer that is open without a disc stays sound with one
 with-disc : (number : ℕ) (off prot : Bool) (t : Transfer) → openSoundB 0 off t ≡ true → openSoundB number prot t ≡ true

@@ -1,3 +1,3 @@
 pub mod Others
 pub mod Keeps
-pub mod Opened
+pub mod Transfers

@@ -1,6 +1,7 @@
 -- Paper 01, "State": what the drive remembers, and what events and commands make of it.
-use mathlib.Core.Bool.{Bool, true, false}
+use mathlib.Core.Bool.{Bool, true, false, cond}
 use Prim.Native.Nat.{ℕ}
+use lib.Dec.{eqb}
 use Rattle.state.specs.declared.Sense.{Sense}
 use Rattle.state.specs.declared.State.{State}
 use Rattle.state.specs.declared.Attention.the-variants.{PowerOn, Change}
@@ -32,6 +33,17 @@ powerOn = stateOf 0 false false true false noSense Closed
 abbrev pub withTransfer : State → Sense → Transfer → State
 withTransfer s sense transfer = stateOf (s .disc) (s .protected) (s .motor) (s .«power_on») (s .change) sense transfer
 
+-- how many bytes are left of a transfer
+abbrev pub leftOf : Transfer → ℕ
+leftOf Closed = 0
+leftOf (Answer p) = p .left
+leftOf (Read p) = p .left
+leftOf (Write p) = p .left
+
+-- "with 0 bytes it stays closed"; "length 0 passes and stays closed"; "At 0 left the transfer closes."
+abbrev pub openedOf : Transfer → Transfer
+openedOf t = cond (eqb (leftOf t) 0) Closed t
+
 -- "Insertion sets number, protection and the change flag, nothing else."
 unfoldable pub insertedOf : State → ℕ → Bool → State
 insertedOf s number prot = stateOf number prot (s .motor) (s .«power_on») true (s .sense) (s .transfer)
@@ -56,8 +68,8 @@ failedOf s (Found fault) = withTransfer s (senseOf (Found fault)) Closed
 
 -- a passed command: "A command that passes sets the sense to 00 00 00, also INQUIRY."
 unfoldable pub passedOf : State → Bool → Transfer → State
-passedOf s motor transfer = stateOf (s .disc) (s .protected) motor (s .«power_on») (s .change) noSense transfer
+passedOf s motor transfer = stateOf (s .disc) (s .protected) motor (s .«power_on») (s .change) noSense (openedOf transfer)
 
 -- a feed or a pull: nothing but the transfer changes
 unfoldable pub movedOf : State → Transfer → State
-movedOf s transfer = withTransfer s (s .sense) transfer
+movedOf s transfer = withTransfer s (s .sense) (openedOf transfer)

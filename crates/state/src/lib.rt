@@ -3,7 +3,7 @@ ghost use mathlib.Core.Path.{_≡_};
 ghost use Prim.Native.Nat.{_+_};
 ghost use lib.Dec.{leb};
 ghost use Rattle.state.specs.Senses.{senseOf, sameB, namedB};
-ghost use Rattle.state.specs.States.{powerOn, insertedOf, ejectedOf, failedOf, passedOf, movedOf, senseAfter, withTransfer};
+ghost use Rattle.state.specs.States.{powerOn, withTransfer, leftOf, openedOf, insertedOf, senseAfter, ejectedOf, failedOf, passedOf, movedOf};
 ghost use Rattle.state.specs.Sound.{endsOnBlockB, onDiscB, openSoundB, soundB};
 use disc::BytePlace;
 
@@ -153,6 +153,27 @@ fn with_transfer(state: State, sense: Sense, transfer: Transfer) -> State
     }
 }
 
+fn left_of(transfer: Transfer) -> usize
+    ensures { λ r. ⌜ r ≡ leftOf transfer ⌝ }
+{
+    match transfer {
+        Transfer::Closed => 0,
+        Transfer::Answer(p) => p.left,
+        Transfer::Read(p) => p.left,
+        Transfer::Write(p) => p.left,
+    }
+}
+
+// With no byte left a transfer is closed.
+fn opened(transfer: Transfer) -> Transfer
+    ensures { λ r. ⌜ r ≡ openedOf transfer ⌝ }
+{
+    if left_of(transfer) == 0 {
+        return Transfer::Closed;
+    }
+    transfer
+}
+
 // After an accepted insertion.
 pub fn inserted(state: State, number: u8, protected: bool) -> State
     ensures { λ r. ⌜ r ≡ insertedOf state number protected ⌝ }
@@ -213,7 +234,7 @@ pub fn passed(state: State, motor: bool, transfer: Transfer) -> State
     ensures { λ r. ⌜ r ≡ passedOf state motor transfer ⌝ }
 {
     let sense = NO_SENSE;
-    let mut next = with_transfer(state, sense, transfer);
+    let mut next = with_transfer(state, sense, opened(transfer));
     next.motor = motor;
     next
 }
@@ -223,7 +244,7 @@ pub fn moved(state: State, transfer: Transfer) -> State
     ensures { λ r. ⌜ r ≡ movedOf state transfer ⌝ }
 {
     let sense = state.sense;
-    with_transfer(state, sense, transfer)
+    with_transfer(state, sense, opened(transfer))
 }
 
 // `at + left <= limit`, with no sum that could wrap.

@@ -18,7 +18,8 @@ returns c =
     let x = house .before .before .before .before .args in
     let refused = feed-refuses (world (x .state) (x .buffer .now) (x .disc .now)) (x .piece .now) in
     let number = c .before .before .number-of .ensures ∙ house .lent-house .ensures in
-    rw (c .unmoved .ensures, refused .changes-nothing (λ z. c .before .if1 .taken (number ∙ z)), ← house .lent-house .ensures)
+    c .unmoved .ensures _ _
+    ∙ rw (refused .changes-nothing (λ z. c .before .if1 .taken (number ∙ z)), ← house .lent-house .ensures)
 
 abbrev lent : tie.Else1 → World
 lent c = let x = c .before .before .before .before .before .before .args in world (x .state) (x .buffer .now) (x .disc .now)
@@ -32,13 +33,16 @@ feed-blocks-requires c _ =
     let past = transfer .before .before in
     (may-write (lent past) (ready past) _ (transfer .transfer .given .1), ready past .buffer)
 
-further-requires : tie.Need-further-requires
-further-requires c _ =
+disc-after-requires : tie.Need-disc-after-requires
+disc-after-requires c _ =
     let call = c .before .before .before .before in
     let transfer = call .before .before .before .before in
     let past = transfer .before .before in
     let span = may-write (lent past) (ready past) _ (transfer .transfer .given .1) .span in
-    record { within = omega (arith, taken-count _ _ _ _ _ _ (call .feed-blocks .ensures)); place = omega (arith, span .within, past .before .before .before .before .before .before) }
+    record {
+      within = omega (arith, taken-count _ _ _ _ _ _ (call .feed-blocks .ensures));
+      end = omega (arith, span .within, past .before .before .before .before .before .before);
+    }
 
 returns-2 : tie.Need-returns-2
 unfolding movedOf
@@ -47,14 +51,17 @@ returns-2 c =
     let transfer = call .before .before .before .before in
     let past = transfer .before .before in
     let w = lent past in
-    rw (feeds w (ready past) (past .before .before .before .before .before .before .args .piece .now), transfer .transfer .given .1, c .onward .ensures, c .before .further .ensures)
+    let piece = past .before .before .before .before .before .before .args .piece .now in
+    c .onward .ensures _ _
+    ∙ rw (feeds w (ready past) piece, transfer .transfer .given .1, c .before .disc-after .ensures)
     (ap (fedOf w (transfer .transfer .given .0 .0)) (call .feed-blocks .ensures))
 
 returns-3 : tie.Need-returns-3
 returns-3 c =
     let past = c .before .before in
+    let w = lent past in
     let piece = past .before .before .before .before .before .before .args .piece .now in
-    rw (c .unmoved2 .ensures, feeds (lent past) (ready past) piece, unfed (lent past) piece (lent past .state .transfer) (c .before .match .keys2))
+    c .unmoved2 .ensures _ _ ∙ rw (feeds w (ready past) piece, unfed w piece (w .state .transfer) (c .before .match .keys2))
 
 pub feed-spec : {M : Type 1} → statement M
 feed-spec =
@@ -66,7 +73,7 @@ feed-spec =
     returns
     (λ c. search needs)
     feed-blocks-requires
-    further-requires
+    disc-after-requires
     (λ _ _. tt)
     (λ _ _. tt)
     (λ c. search needs)

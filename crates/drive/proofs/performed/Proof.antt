@@ -16,11 +16,11 @@ returns-2 c = rw (c .before .before .enum-told2 .given .1, c .passed2 .ensures, 
 returns-3 : tie.Need-returns-3
 unfolding performedOf
 returns-3 c =
-    let give = c .before .before .before .before in
+    let give = c .before .before .before in
     let byte = give .before .before in
     let routine = byte .before .before in
     let length = routine .before .before .before .before in
-    rw (routine .routine .given .1, c .passed3 .ensures, c .before .opened .ensures, ← byte .byte2 .ensures, ← length .length .ensures)
+    rw (routine .routine .given .1, c .passed3 .ensures, ← byte .byte2 .ensures, ← length .length .ensures)
     (ap (answeredOf (length .before .before .before .args .state)) (give .give .ensures))
 
 spanned : (c : tie.After-span)
@@ -31,14 +31,14 @@ spanned c = rw (c .span .ensures, c .before .address .ensures, c .before .before
 returns-4 : tie.Need-returns-4
 unfolding performedOf
 returns-4 c =
-    let told = c .before .before in
-    rw (told .enum-told3 .given .1, c .passed4 .ensures, c .before .opened2 .ensures, spanned (told .before .before))
+    let told = c .before in
+    rw (told .enum-told3 .given .1, c .passed4 .ensures, spanned (told .before .before))
 
 returns-5 : tie.Need-returns-5
 unfolding performedOf
 returns-5 c =
-    let told = c .before .before in
-    rw (told .enum-told4 .given .1, c .passed5 .ensures, c .before .opened3 .ensures, spanned (told .before .before))
+    let told = c .before in
+    rw (told .enum-told4 .given .1, c .passed5 .ensures, spanned (told .before .before))
 
 pub performed-spec : {M : Type 1} → statement M
 performed-spec =
@@ -57,12 +57,9 @@ performed-spec =
     (λ c. search needs)
     (λ _ _. tt)
     (λ _ _. tt)
-    (λ _ _. tt)
     (λ c. search needs)
     (λ _ _. tt)
-    (λ _ _. tt)
     (λ c. search needs)
-    (λ _ _. tt)
     (λ _ _. tt)
     returns
     returns-2

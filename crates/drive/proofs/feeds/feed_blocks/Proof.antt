@@ -27,11 +27,11 @@ abbrev μ-loop : tie.MeasureT-loop
 loop-holds : tie.Need-loop-holds Inv-loop μ-loop
 loop-holds c = (search needs, rw (add-zero (c .before .before .before .before .args .from .at .0)), refl, refl)
 
-moved : (c : tie.After-slice-known4 Inv-loop μ-loop)
+one-turn : (c : tie.After-slice-known4 Inv-loop μ-loop)
     → let call = c .before .before .before .before in
     let at-loop = call .before .before .before .before .before in
     Turn (at-loop .loop .done) (at-loop .before .least .result) (call .feed-share .result)
-moved c =
+one-turn c =
     let call = c .before .before .before .before in
     let at-loop = call .before .before .before .before .before in
     let start = at-loop .before .before .before .before .before in
@@ -54,7 +54,7 @@ loop-again c =
     let piece = x .piece .now in
     let at = x .from .at .0 in
     let done = at-loop .loop .done in (
-      moved c .within,
+      one-turn c .within,
       feed-more (blockBytes (x .number)) at done (call .feed-share .result) piece
           (writing at (x .buffer .now) (x .disc .now)) (writing (at + done) (at-loop .loop .buffer) (at-loop .loop .disc))
           (call .feed-share .last .1 .1 .1 .0) (call .feed-share .last .1 .1 .1 .1 .0)
@@ -84,8 +84,8 @@ feed-blocks-spec =
     (λ c. search needs)
     (λ c. search needs)
     (λ c _. search needs)
-    (λ c. omega (arith, moved c))
-    (λ c. omega (arith, moved c))
+    (λ c. omega (arith, one-turn c))
+    (λ c. omega (arith, one-turn c))
     loop-again
     (λ c. search needs)
     (λ c. search needs)

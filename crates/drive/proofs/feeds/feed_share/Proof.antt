@@ -23,13 +23,13 @@ abbrev After : tie.After-copy → List ℕ
 After c =
     let block = c .before .before .block-bytes .result in
     let x = c .before .before .before .before .before .before .args in
-    let start = x .place .0 % block in
-    take start (x .buffer .now) ++ (c .copy .last .1 .0 ++ drop (block - start) (drop start (x .buffer .now)))
+    let within = x .place .0 % block in
+    take within (x .buffer .now) ++ (c .copy .last .1 .0 ++ drop (block - within) (drop within (x .buffer .now)))
 
-moved : (c : tie.After-copy)
+gathers : (c : tie.After-copy)
     → let x = c .before .before .before .before .before .before .args in
     Copied (c .before .before .block-bytes .result) (x .place .0) (x .piece .now) (x .buffer .now) (After c) (c .copy .result)
-moved c =
+gathers c =
     let block = c .before .before in
     let x = block .before .before .before .before .args in
     let k = known block in
@@ -54,8 +54,8 @@ returns c =
     let k = known block in
     rw (← e)
     (full-done (block .block-bytes .result) (x .place .0) (length (x .disc .now)) k (x .piece .now) (x .buffer .now) (omega arith) (copy .copy .result)
-    (After copy) (x .disc .now) (moved copy) (c .before .before .store-block .last .1 .1 .1 .0)
-    (c .before .before .before .before .before .if1 .taken)
+    (After copy) (x .disc .now) (gathers copy) (c .before .before .store-block .last .1 .1 .1 .0)
+    (omega (arith, c .before .before .before .before .before .if1 .taken))
     (rw (← e) at (c .before .before .store-block .ensures)))
 
 returns-2 : tie.Need-returns-2
@@ -67,8 +67,8 @@ returns-2 c =
     let k = known block in
     rw (← block .block-bytes .ensures)
     (part-done (block .block-bytes .result) (x .place .0) (length (x .disc .now)) k (x .piece .now) (x .buffer .now) (omega arith) (copy .copy .result)
-    (After copy) (x .disc .now) (moved copy)
-    (c .if1 .left))
+    (After copy) (x .disc .now) (gathers copy)
+    (λ e. omega (arith, c .if1 .left, e)))
 
 pub feed-share-spec : {M : Type 1} → statement M
 feed-share-spec =
@@ -80,7 +80,7 @@ feed-share-spec =
     (λ c. omega (arith, known c))
     (λ c. omega (arith, known c))
     (λ _ _. tt)
-    (λ c. omega (arith, known (c .before .before .before .before), moved (c .before .before) .share))
+    (λ c. omega (arith, known (c .before .before .before .before), gathers (c .before .before) .share))
     (λ c. mod-le _ _)
     store-block-requires
     (λ c. search needs)

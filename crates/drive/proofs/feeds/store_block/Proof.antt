@@ -19,7 +19,7 @@ abbrev μ-loop : tie.MeasureT-loop
 loop-holds : tie.Need-loop-holds Inv-loop μ-loop
 loop-holds c =
     let x = c .before .before .args in
-    (search needs, paste-zero (x .disc .now) (x .place .0) (x .buffer .now), refl)
+    (search needs, paste-zero (x .disc .now) (x .first .0) (x .buffer .now), refl)
 
 loop-again : tie.Need-loop-again Inv-loop μ-loop
 loop-again c =
@@ -27,7 +27,7 @@ loop-again c =
     let x = c .before .before .before .before .before .before .args in (
       search needs,
       rw (loop .inv .1, add-one)
-          (paste-suc (x .disc .now) (x .place .0) (x .buffer .now) (loop .i) 0 (omega arith) (omega arith)),
+          (paste-suc (x .disc .now) (x .first .0) (x .buffer .now) (loop .i) 0 (omega arith) (omega arith)),
       search needs,
     )
 

@@ -9,7 +9,7 @@ use lib.Seq.{drop-drop}
 use borrow.Author.Needs.{needs}
 use Rattle.disc.specs.Formats.{blockBytes}
 use Rattle.disc.proofs.Table.{block-holds}
-use Rattle.answer.specs.Giving.{Filled}
+use Rattle.answer.specs.Filling.{Filled}
 use Rattle.drive.proofs.Blocks.{Turn}
 use Rattle.drive.proofs.Pulling.{fill-more}
 use Rattle.drive.proofs.pulls.pull_blocks.Statement.{statement}
@@ -22,11 +22,11 @@ Inv-loop number disc out₀ at wanted done₀ out done =
 abbrev μ-loop : tie.MeasureT-loop
 μ-loop number disc out₀ at wanted done₀ out done = wanted - done
 
-moved : (c : tie.After-slice-known2 Inv-loop μ-loop)
+one-turn : (c : tie.After-slice-known2 Inv-loop μ-loop)
     → let call = c .before .before in
     let at-loop = call .before .before .before in
     Turn (at-loop .loop .done) (at-loop .before .least .result) (call .pull-share .result)
-moved c =
+one-turn c =
     let call = c .before .before in
     let at-loop = call .before .before .before in
     let start = at-loop .before .before .before .before in
@@ -48,13 +48,13 @@ loop-again c =
     let done = at-loop .loop .done in
     let r = call .pull-share .result in
     let share = call .pull-share .ensures in
-    let t = moved c in
+    let t = one-turn c in
     let room : done + r ≤ length (drop at disc) = simp length-drop (omega (arith, start .pre .within, at-loop .before .least .ensures)) in (
       t .within,
       fill-more (drop at disc) (x .out .now) (at-loop .loop .out) (call .pull-share .last .1 .1 .1 .0) done (at-loop .before .least .result - done) r
           room (omega arith) (omega arith)
           (at-loop .loop .inv .1)
-          (rw (drop-drop done at disc, ap (λ (f : Filled). f .count) share) (ap (λ (f : Filled). f .buffer) share)),
+          (rw (drop-drop done at disc, ap (λ (f : Filled). f .count) share) (ap (λ (f : Filled). f .bytes) share)),
       search needs,
     )
 
@@ -77,8 +77,8 @@ pull-blocks-spec =
     (λ c. search needs)
     (λ c. search needs)
     (λ c _. search needs)
-    (λ c. omega (arith, moved c))
-    (λ c. omega (arith, moved c))
+    (λ c. omega (arith, one-turn c))
+    (λ c. omega (arith, one-turn c))
     loop-again
     (λ c. search needs)
     returns)

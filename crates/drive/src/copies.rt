@@ -2,7 +2,7 @@
 ghost use mathlib.Core.Path.{_≡_};
 ghost use Prim.Native.Nat.{min};
 ghost use lib.ListN.{length};
-ghost use Rattle.answer.specs.Giving.{filled, fillOf};
+ghost use Rattle.answer.specs.Filling.{filled, fillOf};
 
 // Copies the first bytes of `src` to the start of `dst`, as many as both have.
 pub(crate) fn copy(src: &[u8], dst: &mut [u8]) -> usize

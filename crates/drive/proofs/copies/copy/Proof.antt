@@ -2,8 +2,8 @@ use native.Mathlib.Omega.{arith}
 use lib.ListN.{length-take}
 use borrow.Author.Needs.{needs}
 use Rattle.answer.proofs.Filling.{fill-start}
-use Rattle.drive.proofs.moves.copy.Statement.{statement}
-use Rattle.drive.proofs.moves.copy.Tie as tie
+use Rattle.drive.proofs.copies.copy.Statement.{statement}
+use Rattle.drive.proofs.copies.copy.Tie as tie
 
 returns : tie.Need-returns
 returns c =
