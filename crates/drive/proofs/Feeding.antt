@@ -1,13 +1,15 @@
 -- Laws of feeding: a cut of the bytes anywhere, and the bytes within one block at once. Assumes nothing.
-use mathlib.Core.Path.{_≡_, refl, ap}
+use mathlib.Core.Path.{_≡_, refl, ap, _∙_}
+use mathlib.Core.Bool.{Bool, true, false, cond}
 use mathlib.Core.List.{List, [], _∷_, _++_}
-use Prim.Native.Nat.{ℕ, suc, _<_, _+_, _-_, _*_, _/_, _%_}
-use native.Mathlib.Nat.{mod-lt, div-add-mod', add-zero, mul-mod-left, add-assoc, add-mul, one-mul}
+use Prim.Native.Nat.{ℕ, suc, _<_, _≤_, _+_, _-_, _*_, _/_, _%_}
+use native.Mathlib.Nat.{mod-lt, mod-eq-of-lt, div-add-mod', add-zero, mul-mod-left, add-assoc, add-mul, one-mul}
 use native.Mathlib.Omega.{arith}
-use borrow.Author.Tests.{eq-eqb, ne-eqb}
+use borrow.Author.Tests.{eq-eqb, ne-eqb, eqb-true, ltb-true, ltb-false}
 use lib.Arith.{digits-mod}
-use lib.ListN.{length, take, drop, set}
-use lib.Seq.{paste, sets, take-add}
+use lib.Dec.{eqb, ltb}
+use lib.ListN.{length, take, drop, set, length-set}
+use lib.Seq.{paste, length-paste, sets, take-add}
 use Rattle.disc.specs.Formats.{blockBytes}
 use Rattle.drive.specs.Feeds.{Writing, writing, feedByte, feedBytes, Taken, taken, takenOf}
 
@@ -71,6 +73,37 @@ module _ (b : ℕ) where
         let d = div-add-mod' at b in
         let e : at / b * b ≡ at - at % b = omega arith in
         rw (d, e) at (feed-all (at / b) (at % b) buffer disc xs (mod-lt at pos) h)
+
+-- ---- block buffer and disc stay as long as they are
+
+module _ (b : ℕ) (pos : 0 < b) where
+  at-least : (m : ℕ) → 0 < m → m % b ≡ 0 → b ≤ m
+  at-least m some e = here (ltb m b) refl
+    where
+      here : (t : Bool) → ltb m b ≡ t → b ≤ m
+      here false f = ltb-false m b f
+      here true f = absurd (let z = mod-eq-of-lt (ltb-true m b f) in omega arith)
+
+  pub byte-lengths : (w : Writing) (x : ℕ) → b ≤ length (w .buffer) → w .at < length (w .disc)
+      → (length (feedByte b w x .buffer) ≡ length (w .buffer)) × (length (feedByte b w x .disc) ≡ length (w .disc))
+  unfolding feedByte
+  byte-lengths w x held room = (length-set (w .buffer) (w .at % b) x, here (eqb ((w .at + 1) % b) 0) refl)
+    where
+      here : (t : Bool) → eqb ((w .at + 1) % b) 0 ≡ t
+          → length (cond t (paste (w .disc) (w .at + 1 - b) (set (w .buffer) (w .at % b) x) b) (w .disc)) ≡ length (w .disc)
+      here false e = refl
+      here true e =
+          let h = at-least (w .at + 1) (omega arith) (eqb-true ((w .at + 1) % b) 0 e) in
+          length-paste (w .disc) (w .at + 1 - b) (set (w .buffer) (w .at % b) x) b (omega arith) (rw (length-set (w .buffer) (w .at % b) x) held)
+
+  pub feed-lengths : (xs : List ℕ) (w : Writing) → b ≤ length (w .buffer) → w .at + length xs ≤ length (w .disc)
+      → (length (feedBytes b w xs .buffer) ≡ length (w .buffer)) × (length (feedBytes b w xs .disc) ≡ length (w .disc))
+  unfolding feedByte
+  feed-lengths [] w held room = (refl, refl)
+  feed-lengths (x ∷ xs) w held room =
+      let (buffer, disc) = byte-lengths w x held (omega arith) in
+      let more = feed-lengths xs (feedByte b w x) (rw buffer held) (rw disc (omega arith)) in
+      (more .0 ∙ buffer, more .1 ∙ disc)
 
 -- ---- the first bytes of a piece
 

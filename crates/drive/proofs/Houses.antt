@@ -15,7 +15,7 @@ use Rattle.drive.specs.House.{failsB, refusing, firstRefusal, lentTests,
 use Rattle.drive.specs.World.{World}
 use Rattle.drive.specs.Commands.{obeyedOf, commandHouse, commandOf}
 use Rattle.drive.specs.Moves.{moveHouse}
-use Rattle.drive.specs.Theorems.{Ready}
+use Rattle.drive.specs.Theorems.{Ready, Admits, CommandAdmits}
 
 abbrev pub noneB : ℕ → Bool
 noneB house = eqb house 0
@@ -50,13 +50,28 @@ module _ (w : World) where
   in-ready none = none-ready (let-pass lent refl (eq-eqb (moveHouse w) 0 none))
 
   module _ (p : List ℕ) where
-    -- the house lets a command pass exactly if its packet has 12 bytes and the world is ready
+    -- and a command's test 1 exactly if its packet has 12 bytes
+    command-in : length p ≡ 12 → Ready w → commandHouse w p ≡ 0
+    unfolding commandTests
+    command-in long r = rw long (ready-in r)
+
+    in-command : commandHouse w p ≡ 0 → (length p ≡ 12) × Ready w
+    unfolding commandTests lentTests
+    in-command none =
+        let test1 =
+        let-pass (commandTests (w .state) (length p) (length (w .buffer)) (length (w .disc))) refl (eq-eqb (commandHouse w p) 0 none) in
+        (eqb-true (length p) 12 (not-false (eqb (length p) 12) (test1 .0)), none-ready (test1 .1))
+
+    -- past the house tests the verdict decides
     pub let-in : Ready w → length p ≡ 12 → commandOf w p ≡ obeyedOf (verdict (w .state) p) w p
-    unfolding commandOf commandTests
-    let-in r long = rw (long, ready-in r)
+    unfolding commandOf
+    let-in r long = rw (command-in long r)
 
     pub was-ready : noneB (commandHouse w p) ≡ true → (length p ≡ 12) × Ready w
-    unfolding commandTests lentTests
-    was-ready none =
-        let test1 = let-pass (commandTests (w .state) (length p) (length (w .buffer)) (length (w .disc))) refl none in
-        (eqb-true (length p) 12 (not-false (eqb (length p) 12) (test1 .0)), none-ready (test1 .1))
+    was-ready none = in-command (eqb-true (commandHouse w p) 0 none)
+
+pub admits : Admits
+admits w = (in-ready w, ready-in w)
+
+pub command-admits : CommandAdmits
+command-admits w p = (in-command w p, command-in w p)

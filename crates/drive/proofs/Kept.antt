@@ -1,13 +1,20 @@
--- What a command keeps: the disc's number, the lengths of what is lent, and the flags but for the one that it reports. Assumes nothing.
+-- What a call that is no event keeps: the disc's number, the lengths of what is lent, and the flags but for the one that it reports.
+-- Assumes nothing.
 use mathlib.Core.Path.{_≡_, refl, _∙_}
 use mathlib.Core.Bool.{Bool, true, false, true≢false}
 use mathlib.Core.List.{List}
-use Prim.Native.Nat.{ℕ, _/_}
-use lib.ListN.{length}
-use Rattle.state.specs.States.{failedOf, passedOf}
+use Prim.Native.Nat.{ℕ, _/_, min}
+use native.Mathlib.Omega.{arith}
+use lib.ListN.{length, take}
+use lib.Seq.{length-take-le}
+use Rattle.disc.specs.Formats.{blockBytes}
+use Rattle.disc.proofs.Table.{block-fits, block-holds}
+use Rattle.state.specs.Sound.{soundB}
+use Rattle.state.specs.States.{failedOf, passedOf, movedOf}
 use Rattle.state.specs.declared.Failure.{Failure}
 use Rattle.state.specs.declared.Failure.the-variants.{Pending, Found}
 use Rattle.state.specs.declared.Transfer.{Transfer}
+use Rattle.state.specs.declared.Transfer.the-variants.{Closed, Answer as AnswerFrom, Read as ReadFrom, Write as WriteTo}
 use Rattle.state.proofs.Keeps.{failed-disc}
 use Rattle.packet.specs.Fields.{byteAt, lengthOf}
 use Rattle.packet.specs.Checks.{verdict}
@@ -18,9 +25,15 @@ use Rattle.packet.specs.declared.Routine.the-variants.{Nothing, Motor, Answer, 
 use Rattle.answer.proofs.Lengths.{give-length}
 use Rattle.drive.specs.World.{World, world}
 use Rattle.drive.specs.Commands.{routineOf, performedOf, obeyedOf, commandHouse, commandOf}
-use Rattle.drive.specs.Theorems.{Ready}
+use Rattle.drive.specs.Moves.{discAfter}
+use Rattle.drive.specs.Feeds.{writing, takenOf, feedingOf, feedOf}
+use Rattle.drive.specs.Pulls.{pullingOf, pullOf}
+use Rattle.drive.specs.Theorems.{Ready, Call, Command, Feed, Pull, callOf}
 use Rattle.drive.proofs.Houses.{noneB}
 use Rattle.drive.proofs.Keeps.{command-keeps}
+use Rattle.drive.proofs.Moving.{feed-keeps, pull-keeps}
+use Rattle.drive.proofs.Feeding.{feed-lengths}
+use Rattle.drive.proofs.Entering.{may-write, feeds, pulls}
 
 abbrev pub attentionB : Failure → Bool
 attentionB (Pending a) = true
@@ -34,7 +47,7 @@ pendingB (Passes rule) = false
 pub record Lent (w v : World) : Type 0 where
   pub number : v .state .disc ≡ w .state .disc
   pub buffer : length (v .buffer) ≡ length (w .buffer)
-  pub disc : v .disc ≡ w .disc
+  pub disc : length (v .disc) ≡ length (w .disc)
 
 pub record Flags (w v : World) : Type 0 where
   pub power : v .state .«power_on» ≡ w .state .«power_on»
@@ -66,16 +79,66 @@ module _ (w : World) (p : List ℕ) where
   obeyed-flags (Fails (Found f)) e = record { power = refl; change = refl }
   obeyed-flags (Passes rule) e = routine-keeps (lengthOf (rule .length) p) (rule .routine) .1
 
-pub ready-next : (w : World) (p : List ℕ) → Ready w → Ready (commandOf w p .world)
-unfolding commandOf
-ready-next w p r = here (noneB (commandHouse w p)) refl
-  where
-    here : (b : Bool) → noneB (commandHouse w p) ≡ b → Ready (commandOf w p .world)
-    here false q = rw q r
-    here true q =
-        let kept = obeyed-lent w p (verdict (w .state) p) in
-        record {
-          sound = command-keeps w p (r .sound);
-          buffer = rw q (kept .buffer ∙ r .buffer);
-          disc = rw (q, kept .disc, kept .number) (r .disc);
-        }
+-- ---- feed and pull
+
+module _ (w : World) where
+  unmoved : Lent w w × Flags w w
+  unmoved = (record { number = refl; buffer = refl; disc = refl }, record { power = refl; change = refl })
+
+  by-moving : (t : Transfer) (b d : List ℕ) → length b ≡ length (w .buffer) → length d ≡ length (w .disc)
+      → Lent w (world (movedOf (w .state) t) b d) × Flags w (world (movedOf (w .state) t) b d)
+  unfolding movedOf
+  by-moving t b d e f = (record { number = refl; buffer = e; disc = f }, record { power = refl; change = refl })
+
+  module _ (r : Ready w) where
+    feeding-keeps : (piece : List ℕ) (t : Transfer) → w .state .transfer ≡ t
+        → let v = feedingOf t w piece .world in
+        Lent w v × Flags w v
+    unfolding takenOf
+    feeding-keeps piece Closed e = unmoved
+    feeding-keeps piece (AnswerFrom p) e = unmoved
+    feeding-keeps piece (ReadFrom p) e = unmoved
+    feeding-keeps piece (WriteTo p) e =
+        let s = may-write w r p e .span in
+        let n = min (length piece) (p .left) in
+        let l : length (take n piece) ≡ n = length-take-le n piece (omega arith) in
+        let pos = block-holds (w .state .disc) (s .lent .low) (s .lent .high) in
+        let held = block-fits (w .state .disc) in
+        let lengths =
+        feed-lengths (blockBytes (w .state .disc)) pos (take n piece) (writing (p .at .0) (w .buffer) (w .disc)) (omega (arith, held, r .buffer))
+        (rw l (omega (arith, s .within))) in
+        by-moving (WriteTo (discAfter p n)) _ _ (lengths .0) (lengths .1)
+
+    pulling-keeps : (out : List ℕ) (t : Transfer)
+        → let v = pullingOf t w out .moved .world in
+        Lent w v × Flags w v
+    pulling-keeps out Closed = unmoved
+    pulling-keeps out (AnswerFrom p) = by-moving _ _ _ refl refl
+    pulling-keeps out (ReadFrom p) = by-moving _ _ _ refl refl
+    pulling-keeps out (WriteTo p) = unmoved
+
+    pub feed-keeps-flags : (piece : List ℕ) → Flags w (feedOf w piece .world)
+    feed-keeps-flags piece = rw (feeds w r piece) (feeding-keeps piece (w .state .transfer) refl .1)
+
+    pub pull-keeps-flags : (out : List ℕ) → Flags w (pullOf w out .moved .world)
+    pull-keeps-flags out = rw (pulls w r out) (pulling-keeps out (w .state .transfer) .1)
+
+    -- ---- a ready world stays ready
+
+    ready-with : (v : World) → Lent w v → soundB (v .state) ≡ true → Ready v
+    ready-with v l sound = record { sound = sound; buffer = l .buffer ∙ r .buffer; disc = rw (l .number) (l .disc ∙ r .disc) }
+
+    ready-next : (p : List ℕ) → Ready (commandOf w p .world)
+    unfolding commandOf
+    ready-next p = here (noneB (commandHouse w p)) refl
+      where
+        here : (b : Bool) → noneB (commandHouse w p) ≡ b → Ready (commandOf w p .world)
+        here false q = rw q r
+        here true q = ready-with (commandOf w p .world) (rw q (obeyed-lent w p (verdict (w .state) p))) (command-keeps w p (r .sound))
+
+    pub call-ready : (c : Call) → Ready (callOf w c)
+    call-ready (Command p) = ready-next p
+    call-ready (Feed x) =
+        ready-with (feedOf w x .world) (rw (feeds w r x) (feeding-keeps x (w .state .transfer) refl .0)) (feed-keeps w x (r .sound))
+    call-ready (Pull x) =
+        ready-with (pullOf w x .moved .world) (rw (pulls w r x) (pulling-keeps x (w .state .transfer) .0)) (pull-keeps w x (r .sound))

@@ -25,9 +25,9 @@ use Rattle.packet.specs.declared.Verdict.the-variants.{Fails}
 use Rattle.packet.proofs.Table.{freeB, attended}
 use Rattle.drive.specs.World.{World, world}
 use Rattle.drive.specs.Commands.{obeyedOf, commandHouse, commandOf}
-use Rattle.drive.specs.Theorems.{Ready, baseB, attendedB, attendedCount, reportsB, someReportsB, SecondAtLatest}
+use Rattle.drive.specs.Theorems.{Ready, baseB, attendedB, Call, Command, Feed, Pull, callOf, attendedCount, reportsB, someReportsB, SecondAtLatest}
 use Rattle.drive.proofs.Houses.{noneB, let-in, was-ready}
-use Rattle.drive.proofs.Kept.{attentionB, pendingB, obeyed-flags, ready-next}
+use Rattle.drive.proofs.Kept.{attentionB, pendingB, obeyed-flags, feed-keeps-flags, pull-keeps-flags, call-ready}
 
 -- ---- which verdicts are a pending attention
 
@@ -109,46 +109,54 @@ one-or-two : (b : Bool) → (1 ≤ cond b 2 1) × (cond b 2 1 ≤ 2)
 one-or-two true = (lit≤ tt, lit≤ tt)
 one-or-two false = (lit≤ tt, lit≤ tt)
 
-module _ (p : List ℕ) (ps : List (List ℕ))
-    (more : (v : World) → Ready v → v .state .change ≡ true → needed (v .state) ≤ attendedCount ps → someReportsB v ps ≡ true) (w : World) (r : Ready w)
+module _ (cs : List Call)
+    (more : (v : World) → Ready v → v .state .change ≡ true → needed (v .state) ≤ attendedCount cs → someReportsB v cs ≡ true) (w : World) (r : Ready w)
     (on : w .state .change ≡ true) where
   -- the rest of the run reports it
-  later : commandOf w p .world .state .change ≡ true → needed (commandOf w p .world .state) ≤ attendedCount ps → someReportsB w (p ∷ ps) ≡ true
-  later change few = rw (more (commandOf w p .world) (ready-next w p r) change few) (or-true (attendedB p && reportsB (commandOf w p)))
+  later : (c : Call) → callOf w c .state .change ≡ true → needed (callOf w c .state) ≤ attendedCount cs → someReportsB w (c ∷ cs) ≡ true
+  later c change few = rw (more (callOf w c) (call-ready w r c) change few) (or-true (reportsB w c))
 
-  at-asked : attendedB p ≡ true → Asked p → needed (w .state) ≤ suc (attendedCount ps) → someReportsB w (p ∷ ps) ≡ true
-  unfolding failedOf
-  at-asked e a h = here (w .state .«power_on») refl
+  module _ (p : List ℕ) where
+    after-it : commandOf w p .world .state .change ≡ true → needed (commandOf w p .world .state) ≤ attendedCount cs
+        → someReportsB w (Command p ∷ cs) ≡ true
+    after-it = later (Command p)
+
+    at-asked : attendedB p ≡ true → Asked p → needed (w .state) ≤ suc (attendedCount cs) → someReportsB w (Command p ∷ cs) ≡ true
+    unfolding failedOf
+    at-asked e a h = here (w .state .«power_on») refl
+      where
+        answers : (f : Failure) → verdict (w .state) p ≡ Fails f → commandOf w p ≡ obeyedOf (Fails f) w p
+        answers f e = let-in w p r (a .long) ∙ ap (λ (v : Verdict). obeyedOf v w p) e
+
+        here : (b : Bool) → w .state .«power_on» ≡ b → someReportsB w (Command p ∷ cs) ≡ true
+        here true q =
+            let power = answers (Pending PowerOn) (power-first (w .state) p (a .rule) (a .known) (a .unit) (a .free) q) in
+            let two = rw q at h in
+            after-it (rw power on) (rw power (omega arith))
+        here false q = rw (e, answers (Pending Change) (change-first (w .state) p (a .rule) (a .known) (a .unit) (a .free) q on))
+
+    at-other : attendedB p ≡ false → needed (w .state) ≤ attendedCount cs → someReportsB w (Command p ∷ cs) ≡ true
+    unfolding commandOf
+    at-other e h = here (noneB (commandHouse w p)) refl
+      where
+        here : (b : Bool) → noneB (commandHouse w p) ≡ b → someReportsB w (Command p ∷ cs) ≡ true
+        here false q = after-it (rw q on) (rw q h)
+        here true q =
+            let flags = obeyed-flags w p (verdict (w .state) p) (other (w .state) p (was-ready w p q .0) e) in
+            after-it (rw q (flags .change ∙ on)) (rw (q, flags .power) h)
+
+  at-call : (c : Call) → needed (w .state) ≤ attendedCount (c ∷ cs) → someReportsB w (c ∷ cs) ≡ true
+  at-call (Command p) h = here (attendedB p) refl
     where
-      answers : (f : Failure) → verdict (w .state) p ≡ Fails f → commandOf w p ≡ obeyedOf (Fails f) w p
-      answers f e = let-in w p r (a .long) ∙ ap (λ (v : Verdict). obeyedOf v w p) e
+      here : (b : Bool) → attendedB p ≡ b → someReportsB w (Command p ∷ cs) ≡ true
+      here true q = at-asked p q (asked p q) (rw q at h)
+      here false q = at-other p q (rw q at h)
+  at-call (Feed x) h = let flags = feed-keeps-flags w r x in later (Feed x) (flags .change ∙ on) (rw (flags .power) h)
+  at-call (Pull x) h = let flags = pull-keeps-flags w r x in later (Pull x) (flags .change ∙ on) (rw (flags .power) h)
 
-      here : (b : Bool) → w .state .«power_on» ≡ b → someReportsB w (p ∷ ps) ≡ true
-      here true q =
-          let power = answers (Pending PowerOn) (power-first (w .state) p (a .rule) (a .known) (a .unit) (a .free) q) in
-          let two = rw q at h in
-          later (rw power on) (rw power (omega arith))
-      here false q = rw (e, answers (Pending Change) (change-first (w .state) p (a .rule) (a .known) (a .unit) (a .free) q on))
-
-  at-other : attendedB p ≡ false → needed (w .state) ≤ attendedCount ps → someReportsB w (p ∷ ps) ≡ true
-  unfolding commandOf
-  at-other e h = here (noneB (commandHouse w p)) refl
-    where
-      here : (b : Bool) → noneB (commandHouse w p) ≡ b → someReportsB w (p ∷ ps) ≡ true
-      here false q = later (rw q on) (rw q h)
-      here true q =
-          let flags = obeyed-flags w p (verdict (w .state) p) (other (w .state) p (was-ready w p q .0) e) in
-          later (rw q (flags .change ∙ on)) (rw (q, flags .power) h)
-
-at-latest : (ps : List (List ℕ)) (w : World) → Ready w → w .state .change ≡ true → needed (w .state) ≤ attendedCount ps → someReportsB w ps ≡ true
+at-latest : (cs : List Call) (w : World) → Ready w → w .state .change ≡ true → needed (w .state) ≤ attendedCount cs → someReportsB w cs ≡ true
 at-latest [] w r on h = absurd (omega (arith, one-or-two (w .state .«power_on») .0))
-at-latest (p ∷ ps) w r on h = here (attendedB p) refl (λ v s o n. at-latest ps v s o n)
-  where
-    here : (b : Bool) → attendedB p ≡ b
-        → ((v : World) → Ready v → v .state .change ≡ true → needed (v .state) ≤ attendedCount ps → someReportsB v ps ≡ true)
-        → someReportsB w (p ∷ ps) ≡ true
-    here true q more = at-asked p ps more w r on q (asked p q) (rw q at h)
-    here false q more = at-other p ps more w r on q (rw q at h)
+at-latest (c ∷ cs) w r on h = at-call cs (λ v s o n. at-latest cs v s o n) w r on c h
 
 pub second-at-latest : SecondAtLatest
-second-at-latest w ps r on h = at-latest ps w r on (omega (arith, one-or-two (w .state .«power_on») .1))
+second-at-latest w cs r on h = at-latest cs w r on (omega (arith, one-or-two (w .state .«power_on») .1))

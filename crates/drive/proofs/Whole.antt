@@ -2,7 +2,7 @@
 use mathlib.Core.Path.{_≡_, refl, sym, _∙_}
 use mathlib.Core.Bool.{Bool, true, false, cond, _&&_, true≢false}
 use mathlib.Core.List.{List, [], _∷_, _++_, append-assoc}
-use Prim.Native.Nat.{ℕ, zero, suc, _+_, _-_, _*_, _/_, _%_, _≤_, _<_}
+use Prim.Native.Nat.{ℕ, zero, suc, _+_, _-_, _*_, _/_, _%_, _≤_, _<_, min}
 use native.Mathlib.Nat.{mod-lt, div-add-mod', mul-mod-left, mul-le-mul-right, lt-of-mul-lt-mul-right, eq-of-mul-eq-mul-right, add-mul, one-mul, add-zero, zero-add, suc-add}
 use native.Mathlib.Numerals.{add-one}
 use native.Mathlib.Omega.{arith}
@@ -11,10 +11,13 @@ use lib.Arith.{digits-mod}
 use lib.Dec.{eqb, leb, ltb}
 use lib.ListN.{length, take, drop, set, length-append, length-take, length-drop, length-set}
 use lib.Seq.{paste, take-nil, length-take-le, length-paste, take-at, drop-at, drop-paste, drop-drop, take-take, take-append-le, take-suc-set, append-snoc, drop-append-add}
+use Rattle.disc.specs.Formats.{blockBytes, runBytes, placeOf}
 use Rattle.disc.proofs.Truth.{both}
-use Rattle.drive.specs.Feeds.{writing, feedByte, feedBytes}
-use Rattle.drive.specs.Theorems.{blockAt, endOf, completesB, OnlyAtTheLastByte, AllOldOrAllNew}
+use Rattle.disc.proofs.Table.{block-fits, block-holds}
+use Rattle.drive.specs.Feeds.{writing, feedByte, feedBytes, takenOf}
+use Rattle.drive.specs.Theorems.{Room, completesB, gatheredOf, OnlyAtTheLastByte, AllOldOrAllNew, FedAllOldOrAllNew}
 use Rattle.drive.proofs.Feeding.{feed-inside, feed-last}
+use Rattle.drive.proofs.Entering.{may-write, feeds}
 
 -- ---- parts of a list with a copy pasted into it
 
@@ -46,30 +49,39 @@ module _ (l s : List ℕ) (at n : ℕ) (room : at + n ≤ length l) (held : n �
 
 -- ---- blocks of b bytes
 
+abbrev blockAt : ℕ → List ℕ → ℕ → List ℕ
+blockAt b disc k = take b (drop (k * b) disc)
+
+abbrev endAt : ℕ → ℕ → ℕ
+endAt b k = k * b + b
+
+unfoldable reachesB : ℕ → ℕ → ℕ → ℕ → Bool
+reachesB b at n k = ltb at (endAt b k) && leb (endAt b k) (at + n)
+
 module _ (b : ℕ) (pos : 0 < b) where
-  before : (q k : ℕ) → q < k → endOf b q ≤ k * b
+  before : (q k : ℕ) → q < k → endAt b q ≤ k * b
   before q k h = let next : q + 1 ≤ k = omega arith in omega (arith, mul-le-mul-right b next, add-mul q 1 b, one-mul b)
 
-  same-end : (q k : ℕ) → endOf b q ≡ endOf b k → q ≡ k
+  same-end : (q k : ℕ) → endAt b q ≡ endAt b k → q ≡ k
   same-end q k e = eq-of-mul-eq-mul-right b pos q k (omega arith)
 
-  ends-alike : (q k : ℕ) → eqb (endOf b q) (endOf b k) ≡ eqb q k
+  ends-alike : (q k : ℕ) → eqb (endAt b q) (endAt b k) ≡ eqb q k
   ends-alike q k = here (eqb q k) refl
     where
-      here : (t : Bool) → eqb q k ≡ t → eqb (endOf b q) (endOf b k) ≡ t
-      here true e = eq-eqb (endOf b q) (endOf b k) (rw (eqb-true q k e))
-      here false e = ne-eqb (endOf b q) (endOf b k) (λ f. eqb-false q k e (same-end q k f))
+      here : (t : Bool) → eqb q k ≡ t → eqb (endAt b q) (endAt b k) ≡ t
+      here true e = eq-eqb (endAt b q) (endAt b k) (rw (eqb-true q k e))
+      here false e = ne-eqb (endAt b q) (endAt b k) (λ f. eqb-false q k e (same-end q k f))
 
   -- within a block there is no end of one
-  no-end : (q j k : ℕ) → j + 1 < b → q * b + j + 1 ≡ endOf b k → ⊥
+  no-end : (q j k : ℕ) → j + 1 < b → q * b + j + 1 ≡ endAt b k → ⊥
   no-end q j k h e =
-      let next : endOf b k ≡ (k + 1) * b = omega (arith, add-mul k 1 b, one-mul b) in
+      let next : endAt b k ≡ (k + 1) * b = omega (arith, add-mul k 1 b, one-mul b) in
       let place : q * b + j + 1 ≡ q * b + (j + 1) = omega arith in
       let m : j + 1 ≡ 0 = sym (digits-mod q h) ∙ rw (← place, e, next) (mul-mod-left (k + 1) b) in
       omega arith
 
   -- a block that is stored changes, and no other
-  block-stored : (q k : ℕ) (disc buffer : List ℕ) → endOf b q ≤ length disc → b ≤ length buffer
+  block-stored : (q k : ℕ) (disc buffer : List ℕ) → endAt b q ≤ length disc → b ≤ length buffer
       → blockAt b (paste disc (q * b) buffer b) k ≡ cond (eqb q k) (take b buffer) (blockAt b disc k)
   block-stored q k disc buffer room held = here (eqb q k) refl (ltb q k) refl
     where
@@ -85,64 +97,64 @@ module _ (b : ℕ) (pos : 0 < b) where
 
   module _ (q j x k : ℕ) (buffer disc : List ℕ) (h : j < b) (held : b ≤ length buffer) (room : q * b + j < length disc) where
     at-last : blockAt b (feedByte b (writing (q * b + j) buffer disc) x .disc) k
-        ≡ cond (eqb (q * b + j + 1) (endOf b k)) (take b (feedByte b (writing (q * b + j) buffer disc) x .buffer)) (blockAt b disc k)
+        ≡ cond (eqb (q * b + j + 1) (endAt b k)) (take b (feedByte b (writing (q * b + j) buffer disc) x .buffer)) (blockAt b disc k)
     at-last = here (eqb (j + 1) b) refl
       where
         here : (t : Bool) → eqb (j + 1) b ≡ t
             → blockAt b (feedByte b (writing (q * b + j) buffer disc) x .disc) k
-            ≡ cond (eqb (q * b + j + 1) (endOf b k)) (take b (feedByte b (writing (q * b + j) buffer disc) x .buffer)) (blockAt b disc k)
+            ≡ cond (eqb (q * b + j + 1) (endAt b k)) (take b (feedByte b (writing (q * b + j) buffer disc) x .buffer)) (blockAt b disc k)
         here false e =
             let inside : j + 1 < b = let d = eqb-false (j + 1) b e in omega arith in
-            rw (feed-inside b q j x buffer disc inside, ne-eqb (q * b + j + 1) (endOf b k) (no-end q j k inside))
+            rw (feed-inside b q j x buffer disc inside, ne-eqb (q * b + j + 1) (endAt b k) (no-end q j k inside))
         here true e =
             let last = eqb-true (j + 1) b e in
-            let place : q * b + j + 1 ≡ endOf b q = omega arith in
+            let place : q * b + j + 1 ≡ endAt b q = omega arith in
             rw (feed-last b q j x buffer disc last, place, ends-alike q k)
             (block-stored q k disc (set buffer j x) (omega arith) (rw (length-set buffer j x) held))
 
   -- ---- bytes
 
   -- if a byte isn't the last of block k, another one after it has to be
-  completes-next : (at n k : ℕ) → (at + 1 ≡ endOf b k → ⊥) → completesB b at (suc n) k ≡ completesB b (at + 1) n k
-  unfolding completesB
-  completes-next at n k other = here (ltb at (endOf b k)) refl
+  reaches-next : (at n k : ℕ) → (at + 1 ≡ endAt b k → ⊥) → reachesB b at (suc n) k ≡ reachesB b (at + 1) n k
+  unfolding reachesB
+  reaches-next at n k other = here (ltb at (endAt b k)) refl
     where
-      here : (t : Bool) → ltb at (endOf b k) ≡ t → (t && leb (endOf b k) (at + suc n)) ≡ completesB b (at + 1) n k
+      here : (t : Bool) → ltb at (endAt b k) ≡ t → (t && leb (endAt b k) (at + suc n)) ≡ reachesB b (at + 1) n k
       here true e =
-          let h = ltb-true at (endOf b k) e in
+          let h = ltb-true at (endAt b k) e in
           let s : at + suc n ≡ at + 1 + n = omega arith in
-          rw (lt-ltb (at + 1) (endOf b k) (omega arith), s)
-      here false e = let h = ltb-false at (endOf b k) e in rw (le-ltb (at + 1) (endOf b k) (omega arith))
+          rw (lt-ltb (at + 1) (endAt b k) (omega arith), s)
+      here false e = let h = ltb-false at (endAt b k) e in rw (le-ltb (at + 1) (endAt b k) (omega arith))
 
-  completes-none : (at k : ℕ) → completesB b at 0 k ≡ false
-  unfolding completesB
-  completes-none at k = here (ltb at (endOf b k)) refl
+  reaches-none : (at k : ℕ) → reachesB b at 0 k ≡ false
+  unfolding reachesB
+  reaches-none at k = here (ltb at (endAt b k)) refl
     where
-      here : (t : Bool) → ltb at (endOf b k) ≡ t → (t && leb (endOf b k) (at + 0)) ≡ false
-      here true e = let h = ltb-true at (endOf b k) e in lt-leb (endOf b k) (at + 0) (omega arith)
+      here : (t : Bool) → ltb at (endAt b k) ≡ t → (t && leb (endAt b k) (at + 0)) ≡ false
+      here true e = let h = ltb-true at (endAt b k) e in lt-leb (endAt b k) (at + 0) (omega arith)
       here false e = refl
 
   module _ (at n k : ℕ) where
-    completes-not : endOf b k ≤ at → completesB b at n k ≡ false
-    unfolding completesB
-    completes-not h = rw (le-ltb at (endOf b k) h)
+    reaches-not : endAt b k ≤ at → reachesB b at n k ≡ false
+    unfolding reachesB
+    reaches-not h = rw (le-ltb at (endAt b k) h)
 
-    completes-now : at < endOf b k → endOf b k ≤ at + n → completesB b at n k ≡ true
-    unfolding completesB
-    completes-now h i = rw (lt-ltb at (endOf b k) h, le-leb (endOf b k) (at + n) i)
+    reaches-now : at < endAt b k → endAt b k ≤ at + n → reachesB b at n k ≡ true
+    unfolding reachesB
+    reaches-now h i = rw (lt-ltb at (endAt b k) h, le-leb (endAt b k) (at + n) i)
 
-  reaches : (q n k : ℕ) → completesB b ((q + 1) * b + 0) n k ≡ true → q < k
-  unfolding completesB
-  reaches q n k e =
+  reaches-on : (q n k : ℕ) → reachesB b ((q + 1) * b + 0) n k ≡ true → q < k
+  unfolding reachesB
+  reaches-on q n k e =
       let at = (q + 1) * b + 0 in
-      let h = ltb-true at (endOf b k) (both (ltb at (endOf b k)) (leb (endOf b k) (at + n)) e .0) in
+      let h = ltb-true at (endAt b k) (both (ltb at (endAt b k)) (leb (endAt b k) (at + n)) e .0) in
       let i : (q + 1) * b < (k + 1) * b = omega (arith, add-mul k 1 b, one-mul b) in
       let l = lt-of-mul-lt-mul-right b i in
       omega arith
 
   -- block k after n bytes from place j within block q on: `gathered` is what there is from the block's start on
   abbrev newOf : ℕ → ℕ → ℕ → ℕ → List ℕ → List ℕ → List ℕ
-  newOf k q j n gathered disc = cond (completesB b (q * b + j) n k) (take b (drop (k * b - q * b) gathered)) (blockAt b disc k)
+  newOf k q j n gathered disc = cond (reachesB b (q * b + j) n k) (take b (drop (k * b - q * b) gathered)) (blockAt b disc k)
 
   abbrev Whole : ℕ → List ℕ → Type 0
   Whole k xs =
@@ -165,7 +177,7 @@ module _ (b : ℕ) (pos : 0 < b) where
         let s : q * b + j + 1 ≡ q * b + suc j = omega arith in
         rw (
           feed-inside b q j x buffer disc inside,
-          completes-next (q * b + j) (length xs) k (no-end q j k inside),
+          reaches-next (q * b + j) (length xs) k (no-end q j k inside),
           s,
           ← joined (omega arith),
         )
@@ -194,48 +206,69 @@ module _ (b : ℕ) (pos : 0 < b) where
           (here (eqb q k) refl)
         where
           here : (t : Bool) → eqb q k ≡ t
-              → cond (completesB b ((q + 1) * b + 0) (length xs) k) (take b (drop (k * b - (q + 1) * b) xs)) (cond t (take b (set buffer j x)) (blockAt b disc k))
+              → cond (reachesB b ((q + 1) * b + 0) (length xs) k) (take b (drop (k * b - (q + 1) * b) xs)) (cond t (take b (set buffer j x)) (blockAt b disc k))
               ≡ newOf k q j (suc (length xs)) (take j buffer ++ x ∷ xs) disc
           here true e =
               let s = eqb-true q k e in
               let none : k * b - q * b ≡ 0 = rw s (omega arith) in
-              let over : endOf b k ≤ (q + 1) * b + 0 = rw (← s) (omega (arith, add-mul q 1 b, one-mul b)) in
-              let reached : endOf b k ≤ q * b + j + suc (length xs) = rw (← s) (omega arith) in
+              let over : endAt b k ≤ (q + 1) * b + 0 = rw (← s) (omega (arith, add-mul q 1 b, one-mul b)) in
+              let reached : endAt b k ≤ q * b + j + suc (length xs) = rw (← s) (omega arith) in
               rw (
-                completes-not ((q + 1) * b + 0) (length xs) k over,
-                completes-now (q * b + j) (suc (length xs)) k (rw (← s) (omega arith)) reached,
+                reaches-not ((q + 1) * b + 0) (length xs) k over,
+                reaches-now (q * b + j) (suc (length xs)) k (rw (← s) (omega arith)) reached,
                 none,
                 gathered,
               )
           here false e =
               let place : q * b + j + 1 ≡ (q + 1) * b + 0 = omega (arith, add-mul q 1 b, one-mul b) in
-              let other : q * b + j + 1 ≡ endOf b k → ⊥ = λ f. eqb-false q k e (same-end q k (omega arith)) in
-              rw (completes-next (q * b + j) (length xs) k other, place) (there (completesB b ((q + 1) * b + 0) (length xs) k) refl)
+              let other : q * b + j + 1 ≡ endAt b k → ⊥ = λ f. eqb-false q k e (same-end q k (omega arith)) in
+              rw (reaches-next (q * b + j) (length xs) k other, place) (there (reachesB b ((q + 1) * b + 0) (length xs) k) refl)
             where
-              there : (c : Bool) → completesB b ((q + 1) * b + 0) (length xs) k ≡ c
+              there : (c : Bool) → reachesB b ((q + 1) * b + 0) (length xs) k ≡ c
                   → cond c (take b (drop (k * b - (q + 1) * b) xs)) (blockAt b disc k)
                   ≡ cond c (take b (drop (k * b - q * b) (take j buffer ++ x ∷ xs))) (blockAt b disc k)
               there false f = refl
               there true f =
-                  let h = before q k (reaches q (length xs) k f) in
+                  let h = before q k (reaches-on q (length xs) k f) in
                   let further : k * b - q * b ≡ b + (k * b - (q + 1) * b) = omega (arith, add-mul q 1 b, one-mul b) in
                   rw (further, later (k * b - (q + 1) * b))
 
   whole : (k : ℕ) (xs : List ℕ) → Whole k xs
-  whole k [] q j buffer disc h held room = rw (completes-none (q * b + j) k)
+  whole k [] q j buffer disc h held room = rw (reaches-none (q * b + j) k)
   whole k (x ∷ xs) q j buffer disc h held room = here (eqb (j + 1) b) refl (λ q j buffer disc. whole k xs q j buffer disc)
     where
       here : (t : Bool) → eqb (j + 1) b ≡ t → (more : Whole k xs) → Next k x xs more q j buffer disc held room
       here true e more = whole-last k x xs more q j buffer disc held room (eqb-true (j + 1) b e)
       here false e more = whole-inside k x xs more q j buffer disc held room (let d = eqb-false (j + 1) b e in omega arith)
 
+-- ---- the blocks of a disc
+
 pub only-at-the-last-byte : OnlyAtTheLastByte
-only-at-the-last-byte b w x k pos held room =
+unfolding placeOf runBytes
+only-at-the-last-byte number w x k r =
+    let b = blockBytes number in
+    let pos = block-holds number (r .lent .low) (r .lent .high) in
+    let fits = block-fits number in
     let d = div-add-mod' (w .at) b in
-    rw d at (at-last b pos (w .at / b) (w .at % b) x k (w .buffer) (w .disc) (mod-lt (w .at) pos) held (rw d room))
+    rw d at (at-last b pos (w .at / b) (w .at % b) x (k .0) (w .buffer) (w .disc) (mod-lt (w .at) pos) (omega (arith, r)) (rw d (omega (arith, r))))
 
 pub all-old-or-all-new : AllOldOrAllNew
-all-old-or-all-new b w xs k pos held room =
+unfolding placeOf runBytes completesB gatheredOf reachesB
+all-old-or-all-new number w xs k r =
+    let b = blockBytes number in
+    let pos = block-holds number (r .lent .low) (r .lent .high) in
+    let fits = block-fits number in
     let d = div-add-mod' (w .at) b in
     let start : w .at / b * b ≡ w .at - w .at % b = omega arith in
-    rw (d, start) at (whole b pos k xs (w .at / b) (w .at % b) (w .buffer) (w .disc) (mod-lt (w .at) pos) held (rw d room))
+    rw (d, start) at (whole b pos (k .0) xs (w .at / b) (w .at % b) (w .buffer) (w .disc) (mod-lt (w .at) pos) (omega (arith, r)) (rw d (r .within)))
+
+pub fed-all-old-or-all-new : FedAllOldOrAllNew
+unfolding takenOf
+fed-all-old-or-all-new w piece p k ready e =
+    let s = may-write w ready p e .span in
+    let n = min (length piece) (p .left) in
+    let l : length (take n piece) ≡ n = length-take-le n piece (omega arith) in
+    let room : Room (w .state .disc) (writing (p .at .0) (w .buffer) (w .disc)) (length (take n piece)) =
+    record { lent = s .lent; buffer = ready .buffer; within = rw l (omega (arith, s .within)) } in
+    rw (feeds w ready piece, e)
+    (rw l at (all-old-or-all-new (w .state .disc) (writing (p .at .0) (w .buffer) (w .disc)) (take n piece) k room))

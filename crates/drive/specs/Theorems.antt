@@ -2,11 +2,14 @@
 use mathlib.Core.Path.{_≡_}
 use mathlib.Core.Bool.{Bool, true, false, cond, not, _&&_, _||_}
 use mathlib.Core.List.{List, [], _∷_, _++_}
-use Prim.Native.Nat.{ℕ, suc, _+_, _-_, _*_, _%_, _≤_, _<_}
+use Prim.Native.Nat.{ℕ, suc, _+_, _-_, _%_, _≤_}
 use lib.Dec.{eqb, leb, ltb}
 use lib.ListN.{length, take, drop}
-use Rattle.disc.specs.Formats.{bufferBytes, discBytes}
+use Rattle.disc.specs.Formats.{bufferBytes, blockBytes, discBytes, placeOf}
+use Rattle.disc.specs.declared.BlockAddress.{BlockAddress}
 use Rattle.state.specs.declared.State.{State}
+use Rattle.state.specs.declared.DiscAt.{DiscAt}
+use Rattle.state.specs.declared.Transfer.the-variants.{Write}
 use Rattle.state.specs.declared.Attention.the-variants.{Change}
 use Rattle.state.specs.declared.Failure.the-variants.{Pending}
 use Rattle.state.specs.Senses.{senseOf, sameB}
@@ -24,8 +27,9 @@ use Rattle.drive.specs.World.{World}
 use Rattle.drive.specs.House.{firstRefusal, insertTests, ejectTests}
 use Rattle.drive.specs.Events.{Happened, happened, insertOf, ejectOf}
 use Rattle.drive.specs.Commands.{Commanded, commanded, commandHouse, commandOf}
+use Rattle.drive.specs.Places.{LentDisc}
 use Rattle.drive.specs.Moves.{Moved, moved, moveHouse}
-use Rattle.drive.specs.Feeds.{Writing, feedByte, feedBytes, feedOf}
+use Rattle.drive.specs.Feeds.{Writing, writing, feedByte, feedBytes, feedOf}
 use Rattle.drive.specs.Pulls.{Pulled, pulled, pullOf}
 
 -- ---- "Every call keeps soundness."
@@ -118,45 +122,74 @@ PullRefuses =
     Refuses house (λ (p : Pulled). p .moved .house) (pullOf w out)
     (record { moved = record { house = house; count = 0; world = w }; out = out })
 
--- ---- "Hence at any cut a block on the disc is all old or all new."
-
--- block k of a disc with blocks of b bytes, and the place after it
-abbrev pub blockAt : ℕ → List ℕ → ℕ → List ℕ
-blockAt b disc k = take b (drop (k * b) disc)
-
-abbrev pub endOf : ℕ → ℕ → ℕ
-endOf b k = k * b + b
-
--- a byte that isn't its block's last leaves the disc; one that is changes exactly that block, to what the block buffer then holds
-abbrev pub OnlyAtTheLastByte : Type 0
-OnlyAtTheLastByte =
-    (b : ℕ) (w : Writing) (x k : ℕ) → 0 < b → b ≤ length (w .buffer) → w .at < length (w .disc)
-    → blockAt b (feedByte b w x .disc) k ≡ cond (eqb (w .at + 1) (endOf b k)) (take b (feedByte b w x .buffer)) (blockAt b (w .disc) k)
-
--- from the start of the block that is being written on: what the block buffer has of it, then the bytes that come
-abbrev pub gatheredOf : ℕ → Writing → List ℕ → List ℕ
-gatheredOf b w xs = take (w .at % b) (w .buffer) ++ xs
-
--- the last byte of block k is among n bytes from `at` on
-unfoldable pub completesB : ℕ → ℕ → ℕ → ℕ → Bool
-completesB b at n k = ltb at (endOf b k) && leb (endOf b k) (at + n)
-
--- after any bytes, so at any cut, each block is what it was or, if its last byte is among them, the bytes gathered for it
-abbrev pub AllOldOrAllNew : Type 0
-AllOldOrAllNew =
-    (b : ℕ) (w : Writing) (xs : List ℕ) (k : ℕ)
-    → 0 < b → b ≤ length (w .buffer) → w .at + length xs ≤ length (w .disc)
-    → blockAt b (feedBytes b w xs .disc) k
-    ≡ cond (completesB b (w .at) (length xs) k) (take b (drop (k * b - (w .at - w .at % b)) (gatheredOf b w xs))) (blockAt b (w .disc) k)
-
--- ---- "So while a change is pending, of the commands that pass A and B and aren't 03 or 12, the second at the latest reports a
--- ---- change, if no event comes between."
-
 -- a sound state with the right buffers
 pub record Ready (w : World) : Type 0 where
   pub sound : soundB (w .state) ≡ true
   pub buffer : length (w .buffer) ≡ bufferBytes
   pub disc : length (w .disc) ≡ discBytes (w .state .disc)
+
+-- tests 2, 3 and 4 admit a call exactly then
+abbrev pub Admits : Type 0
+Admits = (w : World) → (moveHouse w ≡ 0 → Ready w) × (Ready w → moveHouse w ≡ 0)
+
+-- and a command exactly if its packet is right too
+abbrev pub CommandAdmits : Type 0
+CommandAdmits =
+    (w : World) (p : List ℕ) → (commandHouse w p ≡ 0 → (length p ≡ 12) × Ready w) × (length p ≡ 12 → Ready w → commandHouse w p ≡ 0)
+
+-- ---- "Hence at any cut a block on the disc is all old or all new."
+
+-- a block's bytes on a disc, and the place after it
+abbrev pub blockOf : ℕ → List ℕ → BlockAddress → List ℕ
+blockOf number disc k = take (blockBytes number) (drop (placeOf number k .0) disc)
+
+abbrev pub endOf : ℕ → BlockAddress → ℕ
+endOf number k = placeOf number k .0 + blockBytes number
+
+-- disc and block buffer are whole, and n bytes from the place on are on the disc
+pub record Room (number : ℕ) (w : Writing) (n : ℕ) : Type 0 where
+  pub lent : LentDisc number (w .disc)
+  pub buffer : length (w .buffer) ≡ bufferBytes
+  pub within : w .at + n ≤ length (w .disc)
+
+-- a byte that isn't its block's last leaves the disc; one that is changes exactly that block, to what the block buffer then holds
+abbrev pub OnlyAtTheLastByte : Type 0
+OnlyAtTheLastByte =
+    (number : ℕ) (w : Writing) (x : ℕ) (k : BlockAddress) → Room number w 1
+    → let v = feedByte (blockBytes number) w x in
+    blockOf number (v .disc) k
+    ≡ cond (eqb (w .at + 1) (endOf number k)) (take (blockBytes number) (v .buffer)) (blockOf number (w .disc) k)
+
+-- the last byte of block k is among n bytes from `at` on
+unfoldable pub completesB : ℕ → ℕ → ℕ → BlockAddress → Bool
+completesB number at n k = ltb at (endOf number k) && leb (endOf number k) (at + n)
+
+-- block k of what is gathered: from the start of the block being written, what the block buffer has of it, and then the bytes
+unfoldable pub gatheredOf : ℕ → Writing → List ℕ → BlockAddress → List ℕ
+gatheredOf number w xs k =
+    let within = w .at % blockBytes number in
+    take (blockBytes number) (drop (placeOf number k .0 - (w .at - within)) (take within (w .buffer) ++ xs))
+
+-- after any bytes each block is what it was or, if its last byte is among them, what was gathered for it
+abbrev pub AllOldOrAllNew : Type 0
+AllOldOrAllNew =
+    (number : ℕ) (w : Writing) (xs : List ℕ) (k : BlockAddress) → Room number w (length xs)
+    → blockOf number (feedBytes (blockBytes number) w xs .disc) k
+    ≡ cond (completesB number (w .at) (length xs) k) (gatheredOf number w xs k) (blockOf number (w .disc) k)
+
+-- and so after any feed
+abbrev pub FedAllOldOrAllNew : Type 0
+FedAllOldOrAllNew =
+    (w : World) (piece : List ℕ) (p : DiscAt) (k : BlockAddress) → Ready w → w .state .transfer ≡ Write p
+    → let number = w .state .disc in
+    let fed = feedOf w piece in
+    blockOf number (fed .world .disc) k
+    ≡ cond (completesB number (p .at .0) (fed .count) k)
+    (gatheredOf number (writing (p .at .0) (w .buffer) (w .disc)) (take (fed .count) piece) k)
+    (blockOf number (w .disc) k)
+
+-- ---- "So while a change is pending, of the commands that pass A and B and aren't 03 or 12, the second at the latest reports a
+-- ---- change, if no event comes between."
 
 abbrev pub baseB : Known → Bool
 baseB Unknown = false
@@ -170,20 +203,42 @@ attendedB p =
     && not (otherUnitB p)
     && not (eqb (byteAt p 0) 0x03 || eqb (byteAt p 0) 0x12)
 
-abbrev pub attendedCount : List (List ℕ) → ℕ
+-- a call that is no event, with what is lent for it: a packet, a piece, the caller's buffer
+pub data Call : Type 0 where
+  Command : List ℕ → Call
+  Feed : List ℕ → Call
+  Pull : List ℕ → Call
+
+-- the world after it
+abbrev pub callOf : World → Call → World
+callOf w (Command p) = commandOf w p .world
+callOf w (Feed x) = feedOf w x .world
+callOf w (Pull x) = pullOf w x .moved .world
+
+abbrev pub attendsB : Call → Bool
+attendsB (Command p) = attendedB p
+attendsB (Feed x) = false
+attendsB (Pull x) = false
+
+abbrev pub attendedCount : List Call → ℕ
 attendedCount [] = 0
-attendedCount (p ∷ ps) = cond (attendedB p) (suc (attendedCount ps)) (attendedCount ps)
+attendedCount (c ∷ cs) = cond (attendsB c) (suc (attendedCount cs)) (attendedCount cs)
 
 -- the command was accepted, failed, and answers 06 28 00
-abbrev pub reportsB : Commanded → Bool
-reportsB c = eqb (c .house) 0 && not (c .passed) && sameB (c .world .state .sense) (senseOf (Pending Change))
+abbrev pub answersChangeB : Commanded → Bool
+answersChangeB c = eqb (c .house) 0 && not (c .passed) && sameB (c .world .state .sense) (senseOf (Pending Change))
+
+abbrev pub reportsB : World → Call → Bool
+reportsB w (Command p) = attendedB p && answersChangeB (commandOf w p)
+reportsB w (Feed x) = false
+reportsB w (Pull x) = false
 
 -- some such command of a run reports a change
-abbrev pub someReportsB : World → List (List ℕ) → Bool
+abbrev pub someReportsB : World → List Call → Bool
 someReportsB w [] = false
-someReportsB w (p ∷ ps) = attendedB p && reportsB (commandOf w p) || someReportsB (commandOf w p .world) ps
+someReportsB w (c ∷ cs) = reportsB w c || someReportsB (callOf w c) cs
 
--- any packets at all may stand in the run, of any length; two of them have to be such commands
+-- any packets of any length, feeds and pulls may stand in the run; two of the packets have to be such commands
 abbrev pub SecondAtLatest : Type 0
 SecondAtLatest =
-    (w : World) (ps : List (List ℕ)) → Ready w → w .state .change ≡ true → 2 ≤ attendedCount ps → someReportsB w ps ≡ true
+    (w : World) (cs : List Call) → Ready w → w .state .change ≡ true → 2 ≤ attendedCount cs → someReportsB w cs ≡ true
