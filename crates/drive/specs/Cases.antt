@@ -95,21 +95,21 @@ expected c = record { house = 0; passed = c .passed; state = c .after }
 
 -- "Write of one block, 511 bytes fed, then 00": whether the write passed, how many bytes were taken, whether 00 passed, and the disc
 pub record BrokenOff : Type 0 where
-  pub opened : Bool
+  pub written : Bool
   pub count : ℕ
   pub passed : Bool
   pub disc : List ℕ
 
 abbrev pub brokenOff : List ℕ → List ℕ → List ℕ → BrokenOff
 brokenOff buffer disc piece =
-    let written = commandOf (world plain buffer disc) (lengthAt7 0x2a 0 1) in
-    let fed = feedOf (written .world) piece in
+    let wrote = commandOf (world plain buffer disc) (lengthAt7 0x2a 0 1) in
+    let fed = feedOf (wrote .world) piece in
     let tested = commandOf (fed .world) (bytes2And4 0x00 0 0) in
-    record { opened = written .passed; count = fed .count; passed = tested .passed; disc = tested .world .disc }
+    record { written = wrote .passed; count = fed .count; passed = tested .passed; disc = tested .world .disc }
 
 -- over any block buffer, any disc 3 and any 511 bytes
 abbrev pub Starred : Type 0
 Starred =
     (buffer disc piece : List ℕ) → length buffer ≡ bufferBytes → length disc ≡ 1474560 → length piece ≡ 511
     → (map (outcome buffer disc) cases ≡ map expected cases)
-    × (brokenOff buffer disc piece ≡ record { opened = true; count = 511; passed = true; disc = disc })
+    × (brokenOff buffer disc piece ≡ record { written = true; count = 511; passed = true; disc = disc })
