@@ -1,7 +1,7 @@
 -- Places within blocks of b bytes. Assumes nothing.
 use mathlib.Core.Path.{_≡_}
 use mathlib.Core.List.{List}
-use Prim.Native.Nat.{ℕ, _<_, _≤_, _+_, _-_, _*_, _/_, _%_, min}
+use Prim.Native.Nat.{ℕ, _<_, _≤_, _+_, _-_, _/_, _%_, min}
 use native.Mathlib.Nat.{mod-lt, mod-le, div-add-mod', div-lt-iff-lt-mul, mul-le-mul, mul-mod-left, le-refl, add-mul, one-mul}
 use native.Mathlib.Omega.{arith}
 use lib.ListN.{length}

@@ -9,7 +9,7 @@ use lib.Seq.{sets, length-sets, take-all}
 use Rattle.disc.specs.Formats.{bufferBytes, formatOf, blockBytes, runBytes, discBytes, placeOf}
 use Rattle.disc.specs.Masks.{masks, maskRow}
 use Rattle.state.specs.declared.State.{State}
-use Rattle.state.specs.declared.Transfer.the-variants.{Closed, Write}
+use Rattle.state.specs.declared.Transfer.the-variants.{Write}
 use Rattle.state.specs.Senses.{noSense, namedB}
 use Rattle.state.specs.States.{withTransfer, failedOf, passedOf, movedOf}
 use Rattle.state.specs.Sound.{onDiscB, endsOnBlockB, openSoundB, soundB}
@@ -21,8 +21,7 @@ use Rattle.answer.specs.Giving.{answerOf, allocationOf, giveOf}
 use Rattle.drive.specs.World.{world}
 use Rattle.drive.specs.House.{lentTests, commandTests}
 use Rattle.drive.specs.Commands.{Commanded, spanOf, performedOf, commandOf}
-use Rattle.drive.specs.Moves.{Moved}
-use Rattle.drive.specs.Feeds.{writing, takenOf, feedOf}
+use Rattle.drive.specs.Feeds.{takenOf, feedOf}
 use Rattle.drive.specs.Cases.{plain, lengthAt7, bytes2And4, cases, outcome, expected, Starred}
 use Rattle.drive.proofs.Feeding.{share-part}
 

@@ -11,11 +11,10 @@ use lib.ListN.{length}
 use Rattle.disc.specs.Formats.{bufferBytes, formatOf, blockBytes, runBytes, discBytes, placeOf}
 use Rattle.disc.specs.declared.BlockAddress.{BlockAddress}
 use Rattle.disc.proofs.Truth.{neither, implies}
-use Rattle.state.specs.States.{insertedOf, ejectedOf, passedOf}
+use Rattle.state.specs.States.{insertedOf, ejectedOf}
 use Rattle.state.specs.Senses.{namedB}
 use Rattle.state.specs.Sound.{onDiscB, endsOnBlockB, openSoundB, soundB}
 use Rattle.state.specs.declared.State.{State}
-use Rattle.state.specs.declared.Transfer.{Transfer}
 use Rattle.state.specs.declared.Transfer.the-variants.{Closed, Answer as AnswerFrom, Read as ReadFrom, Write as WriteTo}
 use Rattle.state.proofs.Keeps.{failed-sound, passed-sound, inserted-sound, ejected-sound}
 use Rattle.packet.specs.Fields.{byteAt, addressOf, lengthOf}

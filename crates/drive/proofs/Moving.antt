@@ -1,11 +1,10 @@
 -- Feed and pull keep soundness. Assumes nothing.
-use mathlib.Core.Path.{_≡_, refl}
+use mathlib.Core.Path.{_≡_}
 use mathlib.Core.Bool.{Bool, true, false, cond}
 use mathlib.Core.List.{List}
-use Prim.Native.Nat.{ℕ, _+_, _-_, _%_, _≤_, min}
+use Prim.Native.Nat.{ℕ, _+_, _-_, min}
 use native.Mathlib.Omega.{arith}
 use lib.ListN.{length}
-use Rattle.disc.specs.Formats.{blockBytes}
 use Rattle.state.specs.declared.State.{State}
 use Rattle.state.specs.declared.AnswerAt.{AnswerAt}
 use Rattle.state.specs.declared.DiscAt.{DiscAt}

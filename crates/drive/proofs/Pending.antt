@@ -110,8 +110,8 @@ one-or-two true = (lit≤ tt, lit≤ tt)
 one-or-two false = (lit≤ tt, lit≤ tt)
 
 module _ (cs : List Call)
-    (more : (v : World) → Ready v → v .state .change ≡ true → needed (v .state) ≤ attendedCount cs → someReportsB v cs ≡ true) (w : World) (r : Ready w)
-    (on : w .state .change ≡ true) where
+    (more : (v : World) → Ready v → v .state .change ≡ true → needed (v .state) ≤ attendedCount cs → someReportsB v cs ≡ true)
+    (w : World) (r : Ready w) (on : w .state .change ≡ true) where
   -- the rest of the run reports it
   later : (c : Call) → callOf w c .state .change ≡ true → needed (callOf w c .state) ≤ attendedCount cs → someReportsB w (c ∷ cs) ≡ true
   later c change few = rw (more (callOf w c) (call-ready w r c) change few) (or-true (reportsB w c))

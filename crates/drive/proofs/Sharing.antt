@@ -1,7 +1,7 @@
 -- One share of a feed: what the copy into the buffer leaves, and that the share is a run of bytes. Assumes nothing.
 use mathlib.Core.Path.{_≡_, ap}
 use mathlib.Core.List.{List, _++_}
-use Prim.Native.Nat.{ℕ, _<_, _≤_, _+_, _-_, _%_, min}
+use Prim.Native.Nat.{ℕ, _≤_, _+_, _-_, _%_, min}
 use native.Mathlib.Omega.{arith}
 use lib.ListN.{length, take, drop, length-drop}
 use lib.Seq.{paste, sets, length-take-le}

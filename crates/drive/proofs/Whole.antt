@@ -1,51 +1,23 @@
 -- At any cut a block on the disc is all old or all new. Assumes nothing.
 use mathlib.Core.Path.{_≡_, refl, sym, _∙_}
-use mathlib.Core.Bool.{Bool, true, false, cond, _&&_, true≢false}
-use mathlib.Core.List.{List, [], _∷_, _++_, append-assoc}
-use Prim.Native.Nat.{ℕ, zero, suc, _+_, _-_, _*_, _/_, _%_, _≤_, _<_, min}
-use native.Mathlib.Nat.{mod-lt, div-add-mod', mul-mod-left, mul-le-mul-right, lt-of-mul-lt-mul-right, eq-of-mul-eq-mul-right, add-mul, one-mul, add-zero, zero-add, suc-add}
-use native.Mathlib.Numerals.{add-one}
+use mathlib.Core.Bool.{Bool, true, false, cond, _&&_}
+use mathlib.Core.List.{List, [], _∷_, _++_}
+use Prim.Native.Nat.{ℕ, suc, _+_, _-_, _*_, _/_, _%_, _≤_, _<_, min}
+use native.Mathlib.Nat.{mod-lt, div-add-mod', mul-mod-left, mul-le-mul-right, lt-of-mul-lt-mul-right, eq-of-mul-eq-mul-right, add-mul, one-mul}
 use native.Mathlib.Omega.{arith}
-use borrow.Author.Tests.{eq-eqb, ne-eqb, eqb-true, eqb-false, lt-ltb, le-leb, ltb-true, ltb-false, leb-true, leb-false, le-ltb, lt-leb}
+use borrow.Author.Tests.{eq-eqb, ne-eqb, eqb-true, eqb-false, lt-ltb, le-leb, ltb-true, ltb-false, le-ltb, lt-leb}
 use lib.Arith.{digits-mod}
 use lib.Dec.{eqb, leb, ltb}
-use lib.ListN.{length, take, drop, set, length-append, length-take, length-drop, length-set}
-use lib.Seq.{paste, take-nil, length-take-le, length-paste, take-at, drop-at, drop-paste, drop-drop, take-take, take-append-le, take-suc-set, append-snoc, drop-append-add}
+use lib.ListN.{length, take, drop, set, length-set}
+use lib.Seq.{paste, length-take-le, length-paste, take-at, take-suc-set, append-snoc, drop-append-add}
 use Rattle.disc.specs.Formats.{blockBytes, runBytes, placeOf}
 use Rattle.disc.proofs.Truth.{both}
 use Rattle.disc.proofs.Table.{block-fits, block-holds}
 use Rattle.drive.specs.Feeds.{writing, feedByte, feedBytes, takenOf}
 use Rattle.drive.specs.Theorems.{Room, completesB, gatheredOf, OnlyAtTheLastByte, AllOldOrAllNew, FedAllOldOrAllNew}
+use Rattle.drive.proofs.Parts.{paste-same, paste-before, paste-after}
 use Rattle.drive.proofs.Feeding.{feed-inside, feed-last}
 use Rattle.drive.proofs.Entering.{may-write, feeds}
-
--- ---- parts of a list with a copy pasted into it
-
-part-taken : (n m : ℕ) (l : List ℕ) → take n (drop m l) ≡ drop m (take (m + n) l)
-part-taken n zero l = rw (zero-add n)
-part-taken n (suc m) [] = rw (take-nil n, take-nil (suc m + n))
-part-taken n (suc m) (x ∷ l) = rw (suc-add m n) (part-taken n m l)
-
-module _ (l s : List ℕ) (at n : ℕ) (room : at + n ≤ length l) (held : n ≤ length s) where
-  paste-at : drop at (paste l at s n) ≡ take n s ++ drop (at + n) l
-  paste-at =
-      rw (append-assoc (take at l) (take n s) (drop (at + n) l))
-      (drop-at (take at l) (take n s ++ drop (at + n) l) at (length-take-le at l (omega arith)))
-
-  pub paste-same : take n (drop at (paste l at s n)) ≡ take n s
-  paste-same = rw paste-at (take-at (take n s) (drop (at + n) l) n (length-take-le n s held))
-
-  -- a part before it, and one after it
-  pub paste-before : (m : ℕ) → m + n ≤ at → take n (drop m (paste l at s n)) ≡ take n (drop m l)
-  paste-before m h =
-      let front : take (m + n) (paste l at s n) ≡ take (m + n) l =
-      rw (append-assoc (take at l) (take n s) (drop (at + n) l), take-append-le (m + n) (take at l) (take n s ++ drop (at + n) l) (rw (length-take-le at l (omega arith)) h), take-take (m + n) at l h) in
-      rw (part-taken n m (paste l at s n), front, part-taken n m l)
-
-  pub paste-after : (m : ℕ) → at + n ≤ m → take n (drop m (paste l at s n)) ≡ take n (drop m l)
-  paste-after m h =
-      let e : m ≡ at + n + (m - (at + n)) = omega arith in
-      rw (e, ← drop-drop (m - (at + n)) (at + n) (paste l at s n), drop-paste l at s n (omega arith) held, drop-drop (m - (at + n)) (at + n) l)
 
 -- ---- blocks of b bytes
 
@@ -202,7 +174,12 @@ module _ (b : ℕ) (pos : 0 < b) where
           let stored = paste disc (q * b) (set buffer j x) b in
           let fits : b ≤ length (set buffer j x) = rw (length-set buffer j x) held in
           let long : length stored ≡ length disc = length-paste disc (q * b) (set buffer j x) b (omega arith) fits in
-          rw (feed-last b q j x buffer disc last, next, more (q + 1) 0 (set buffer j x) stored pos fits (omega arith), block-stored q k disc (set buffer j x) (omega arith) fits)
+          rw (
+            feed-last b q j x buffer disc last,
+            next,
+            more (q + 1) 0 (set buffer j x) stored pos fits (omega arith),
+            block-stored q k disc (set buffer j x) (omega arith) fits,
+          )
           (here (eqb q k) refl)
         where
           here : (t : Bool) → eqb q k ≡ t

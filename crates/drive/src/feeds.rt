@@ -35,7 +35,8 @@ fn feed_share(
     requires { ⌜ Place number (place .0) (now disc) ⌝ }
     requires { ⌜ length (now buffer) ≡ bufferBytes ⌝ }
     ensures { λ r. ⌜ taken r (writing (place .0 + r) (now (buffer .exit)) (now (disc .exit)))
-        ≡ takenOf number (min (length (now (piece .entry))) (restOf number (place .0))) (writing (place .0) (now (buffer .entry)) (now (disc .entry))) (now (piece .entry)) ⌝ }
+        ≡ takenOf number (min (length (now (piece .entry))) (restOf number (place .0)))
+        (writing (place .0) (now (buffer .entry)) (now (disc .entry))) (now (piece .entry)) ⌝ }
 {
     let block = disc::block_bytes(number);
     let at = place.0;
@@ -58,7 +59,8 @@ pub(crate) fn feed_blocks(
     requires { ⌜ WriteSpan number from (now disc) ⌝ }
     requires { ⌜ length (now buffer) ≡ bufferBytes ⌝ }
     ensures { λ r. ⌜ taken r (writing (from .at .0 + r) (now (buffer .exit)) (now (disc .exit)))
-        ≡ takenOf number (min (length (now (piece .entry))) (from .left)) (writing (from .at .0) (now (buffer .entry)) (now (disc .entry))) (now (piece .entry)) ⌝ }
+        ≡ takenOf number (min (length (now (piece .entry))) (from .left))
+        (writing (from .at .0) (now (buffer .entry)) (now (disc .entry))) (now (piece .entry)) ⌝ }
 {
     let at = from.at.0;
     let wanted = disc::least(piece.len(), from.left);

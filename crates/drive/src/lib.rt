@@ -201,7 +201,8 @@ fn performed(state: State, rule: Rule, packet: &[u8], buffer: &mut [u8]) -> Stat
 }
 
 pub fn command(state: State, packet: &[u8], buffer: &mut [u8], disc: &[u8]) -> CommandReply
-    ensures { λ r. ⌜ commanded r (now (buffer .exit)) (now (disc .entry)) ≡ commandOf (world state (now (buffer .entry)) (now (disc .entry))) (now (packet .entry)) ⌝ }
+    ensures { λ r. ⌜ commanded r (now (buffer .exit)) (now (disc .entry))
+        ≡ commandOf (world state (now (buffer .entry)) (now (disc .entry))) (now (packet .entry)) ⌝ }
 {
     let house = command_house(state, packet.len(), buffer.len(), disc.len());
     if number_of(house) != 0 {

@@ -23,7 +23,8 @@ pub(crate) fn pull_answer(from: AnswerAt, buffer: &[u8], out: &mut [u8]) -> usiz
 // Fills the first min(rest of the block, out) bytes of `out`.
 fn pull_share(place: BytePlace, number: u8, disc: &[u8], out: &mut [u8]) -> usize
     requires { ⌜ Place number (place .0) (now disc) ⌝ }
-    ensures { λ r. ⌜ filled r (now (out .exit)) ≡ fillOf (min (restOf number (place .0)) (length (now (out .entry)))) (drop (place .0) (now (disc .entry))) (now (out .entry)) ⌝ }
+    ensures { λ r. ⌜ filled r (now (out .exit))
+        ≡ fillOf (min (restOf number (place .0)) (length (now (out .entry)))) (drop (place .0) (now (disc .entry))) (now (out .entry)) ⌝ }
 {
     let block = disc::block_bytes(number);
     let at = place.0;

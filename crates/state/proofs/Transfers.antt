@@ -2,7 +2,7 @@
 use mathlib.Core.Path.{_≡_}
 use mathlib.Core.Bool.{Bool, true, not, _&&_}
 use Prim.Native.Nat.{ℕ, _+_, _%_, _≤_, _<_}
-use borrow.Author.Tests.{eqb-true, eqb-false, leb-true, ltb-true, eq-eqb, ne-eqb, le-leb, lt-ltb, not-true}
+use borrow.Author.Tests.{eqb-true, eqb-false, leb-true, ltb-true, ne-eqb, le-leb, lt-ltb, not-true}
 use lib.Dec.{eqb, leb, ltb}
 use Rattle.disc.specs.Formats.{bufferBytes, blockBytes, discBytes}
 use Rattle.disc.proofs.Truth.{both}

@@ -1,4 +1,4 @@
-use mathlib.Core.Path.{_≡_, sym, _∙_, ap}
+use mathlib.Core.Path.{sym, _∙_, ap}
 use native.Mathlib.Omega.{arith}
 use borrow.Author.Needs.{needs}
 use Rattle.state.specs.States.{movedOf}
@@ -53,9 +53,10 @@ returns-2 c =
     let transfer = call .before .before .before in
     let past = transfer .before .before in
     let w = lent past in
+    let out = past .before .before .before .before .before .before .args .out .now in
     let from = transfer .transfer .given .0 .0 in
     ap (λ (m : Moved). pulled m (call .pull-answer .last .1 .1 .0)) (c .onward .ensures _ _)
-    ∙ rw (pulls w (ready past) (past .before .before .before .before .before .before .args .out .now), transfer .transfer .given .1, c .before .answer-after .ensures)
+    ∙ rw (pulls w (ready past) out, transfer .transfer .given .1, c .before .answer-after .ensures)
     (ap (pulledOf (λ n. Answer (answerAfter from n)) w) (call .pull-answer .ensures))
 
 -- ---- a read
@@ -82,9 +83,10 @@ returns-3 c =
     let transfer = call .before .before .before in
     let past = transfer .before .before in
     let w = lent past in
+    let out = past .before .before .before .before .before .before .args .out .now in
     let from = transfer .transfer2 .given .0 .0 in
     ap (λ (m : Moved). pulled m (call .pull-blocks .last .1 .1 .1 .0)) (c .onward2 .ensures _ _)
-    ∙ rw (pulls w (ready past) (past .before .before .before .before .before .before .args .out .now), transfer .transfer2 .given .1, c .before .disc-after .ensures)
+    ∙ rw (pulls w (ready past) out, transfer .transfer2 .given .1, c .before .disc-after .ensures)
     (ap (pulledOf (λ n. Read (discAfter from n)) w) (call .pull-blocks .ensures))
 
 -- ---- nothing to pull

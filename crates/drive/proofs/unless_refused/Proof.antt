@@ -1,4 +1,4 @@
-use borrow.Author.Tests.{eq-eqb, ne-eqb}
+use borrow.Author.Tests.{ne-eqb}
 use Rattle.drive.proofs.unless_refused.Statement.{statement}
 use Rattle.drive.proofs.unless_refused.Tie as tie
 

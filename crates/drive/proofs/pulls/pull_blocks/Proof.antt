@@ -1,13 +1,12 @@
 -- The loop's invariant: `out` begins with the first `done` bytes from the place on, and is its own after them.
 use mathlib.Core.Path.{_≡_, refl, ap}
 use mathlib.Core.List.{_++_}
-use Prim.Native.Nat.{_≤_, _+_, _-_, _%_, min}
+use Prim.Native.Nat.{_≤_, _+_, _-_, min}
 use native.Mathlib.Nat.{mod-lt}
 use native.Mathlib.Omega.{arith}
 use lib.ListN.{length, take, drop, length-take, length-drop}
 use lib.Seq.{drop-drop}
 use borrow.Author.Needs.{needs}
-use Rattle.disc.specs.Formats.{blockBytes}
 use Rattle.disc.proofs.Table.{block-holds}
 use Rattle.answer.specs.Filling.{Filled}
 use Rattle.drive.proofs.Blocks.{Turn}
