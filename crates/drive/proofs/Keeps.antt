@@ -1,7 +1,7 @@
 -- Every entry keeps soundness. Assumes nothing.
 use mathlib.Core.Path.{_≡_, refl, ap}
 use mathlib.Core.Bool.{Bool, true, false, cond, _&&_}
-use mathlib.Core.List.{List}
+use mathlib.Core.List.{List, []}
 use Prim.Native.Nat.{ℕ, _+_, _*_, _/_, _%_, _≤_}
 use native.Mathlib.Nat.{add-mul, mul-le-mul-right, mul-mod-left, mul-zero}
 use native.Mathlib.Omega.{arith}
@@ -32,8 +32,8 @@ use Rattle.packet.proofs.Table.{opensB, writesB, guarded}
 use Rattle.answer.specs.Giving.{giveOf}
 use Rattle.answer.proofs.Lengths.{give-count}
 use Rattle.drive.specs.House.{firstRefusal, insertTests, ejectTests}
-use Rattle.drive.specs.Events.{event, insertOf, ejectOf}
-use Rattle.drive.specs.World.{World}
+use Rattle.drive.specs.Events.{event, unlessRefused, insertOf, ejectOf}
+use Rattle.drive.specs.World.{World, world}
 use Rattle.drive.specs.Commands.{spanOf, routineOf, performedOf, obeyedOf, commandHouse, commandOf}
 use Rattle.drive.specs.Theorems.{PowerOnSound, InsertKeeps, EjectKeeps, CommandKeeps}
 use Rattle.drive.proofs.Houses.{noneB, let-pass, was-ready}
@@ -42,27 +42,32 @@ pub power-on-sound : PowerOnSound
 unfolding soundB namedB openSoundB
 power-on-sound = refl
 
+module _ (w : World) (e : soundB (w .state) ≡ true) where
+  -- a refusal keeps the world, and an accepted event has to keep it sound
+  event-keeps : (house : ℕ) (next : World) → (noneB house ≡ true → soundB (next .state) ≡ true)
+      → soundB (unlessRefused house w next .world .state) ≡ true
+  event-keeps house next sound = here (noneB house) refl
+    where
+      here : (b : Bool) → noneB house ≡ b → soundB (cond b (event 0 next) (event house w) .world .state) ≡ true
+      here false q = e
+      here true q = sound q
+
 pub insert-keeps : InsertKeeps
 unfolding insertOf insertTests
-insert-keeps s number prot disc e = here (noneB (firstRefusal (insertTests s number (length disc)))) refl
-  where
-    here : (b : Bool) → noneB (firstRefusal (insertTests s number (length disc))) ≡ b
-        → soundB (cond b (event 0 (insertedOf s number prot)) (event (firstRefusal (insertTests s number (length disc))) s) .state) ≡ true
-    here false q = e
-    here true q =
-        let test5 = let-pass (insertTests s number (length disc)) refl q .1 in
-        let test7 = test5 .1 in
-        let (none, above) = neither (eqb number 0) (ltb 4 number) (test7 .0) in
-        inserted-sound s number prot (eqb-true (s .disc) 0 (not-false (eqb (s .disc) 0) (test5 .0))) (eqb-false number 0 none)
-        (ltb-false 4 number above) e
+insert-keeps w number prot disc e =
+    let s = w .state in
+    event-keeps w e (firstRefusal (insertTests s number (length disc))) (world (insertedOf s number prot) (w .buffer) disc)
+    (λ none.
+    let test5 = let-pass (insertTests s number (length disc)) refl none .1 in
+    let test7 = test5 .1 in
+    let (zero, above) = neither (eqb number 0) (ltb 4 number) (test7 .0) in
+    inserted-sound s number prot (eqb-true (s .disc) 0 (not-false (eqb (s .disc) 0) (test5 .0))) (eqb-false number 0 zero)
+    (ltb-false 4 number above) e)
 
 pub eject-keeps : EjectKeeps
 unfolding ejectOf
-eject-keeps s e = here (noneB (firstRefusal (ejectTests s)))
-  where
-    here : (b : Bool) → soundB (cond b (event 0 (ejectedOf s)) (event (firstRefusal (ejectTests s)) s) .state) ≡ true
-    here false = e
-    here true = ejected-sound s e
+eject-keeps w e =
+    event-keeps w e (firstRefusal (ejectTests (w .state))) (world (ejectedOf (w .state)) (w .buffer) []) (λ _. ejected-sound (w .state) e)
 
 -- ---- what a command opens
 

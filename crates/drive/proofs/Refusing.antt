@@ -1,7 +1,7 @@
 -- A refused call answers its number and changes nothing, and none else has a number. Assumes nothing.
 use mathlib.Core.Path.{_≡_, refl}
 use mathlib.Core.Bool.{Bool, true, false, cond}
-use mathlib.Core.List.{List}
+use mathlib.Core.List.{List, []}
 use Prim.Native.Nat.{ℕ}
 use borrow.Author.Tests.{eqb-true}
 use lib.Dec.{eqb}
@@ -12,7 +12,7 @@ use Rattle.state.specs.States.{insertedOf, ejectedOf}
 use Rattle.packet.specs.declared.Verdict.{Verdict}
 use Rattle.packet.specs.declared.Verdict.the-variants.{Passes, Fails}
 use Rattle.packet.specs.Checks.{verdict}
-use Rattle.drive.specs.World.{World}
+use Rattle.drive.specs.World.{World, world}
 use Rattle.drive.specs.House.{firstRefusal, insertTests, ejectTests}
 use Rattle.drive.specs.Events.{Happened, event, insertOf, ejectOf}
 use Rattle.drive.specs.Commands.{Commanded, obeyedOf, commandHouse, commandOf}
@@ -33,15 +33,15 @@ module _ {A : Type 0} (number : A → ℕ) where
 
 pub insert-refuses : InsertRefuses
 unfolding insertOf
-insert-refuses s number prot disc =
-    let house = firstRefusal (insertTests s number (length disc)) in
-    refuses (λ (h : Happened). h .house) house (event 0 (insertedOf s number prot)) (event house s) refl refl
+insert-refuses w number prot disc =
+    let house = firstRefusal (insertTests (w .state) number (length disc)) in
+    refuses (λ (h : Happened). h .house) house (event 0 (world (insertedOf (w .state) number prot) (w .buffer) disc)) (event house w) refl refl
 
 pub eject-refuses : EjectRefuses
 unfolding ejectOf
-eject-refuses s =
-    let house = firstRefusal (ejectTests s) in
-    refuses (λ (h : Happened). h .house) house (event 0 (ejectedOf s)) (event house s) refl refl
+eject-refuses w =
+    let house = firstRefusal (ejectTests (w .state)) in
+    refuses (λ (h : Happened). h .house) house (event 0 (world (ejectedOf (w .state)) (w .buffer) [])) (event house w) refl refl
 
 obeyed-accepted : (w : World) (p : List ℕ) (v : Verdict) → obeyedOf v w p .house ≡ 0
 obeyed-accepted w p (Fails f) = refl

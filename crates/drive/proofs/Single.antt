@@ -7,6 +7,7 @@ use Rattle.drive.specs.declared.House.{House}
 use Rattle.drive.specs.declared.House.the-variants.{Accepted, PacketLength, Unsound, BufferLength, DiscLength, DiscIn, NoDiscIn, NoSuchDisc}
 use Rattle.drive.specs.declared.EventReply.{EventReply}
 use Rattle.drive.specs.declared.MoveReply.{MoveReply}
+use Rattle.drive.specs.World.{World}
 use Rattle.drive.specs.House.{numberOf}
 use Rattle.drive.specs.Events.{Happened, happened}
 use Rattle.drive.specs.Commands.{Commanded}
@@ -32,20 +33,20 @@ by-number NoSuchDisc = refl
 pub one-house : (h g : House) → numberOf h ≡ numberOf g → h ≡ g
 one-house h g e = sym (by-number h) ∙ ap (λ (n : ℕ). getD houses n Accepted) e ∙ by-number g
 
-one-event : (r q : EventReply) → happened r ≡ happened q → r ≡ q
-one-event r q e =
+one-event : (w : World) (disc : List ℕ) (r q : EventReply) → happened r w disc ≡ happened q w disc → r ≡ q
+one-event w disc r q e =
     let house = one-house (r .house) (q .house) (ap (λ (h : Happened). h .house) e) in
-    let state = ap (λ (h : Happened). h .state) e in
+    let state = ap (λ (h : Happened). h .world .state) e in
     λ i. record { house = house i; state = state i }
 
 pub one-power-on : OnePowerOn
 one-power-on r q e f = e ∙ sym f
 
 pub one-insertion : OneInsertion
-one-insertion s number prot disc r q e f = one-event r q (e ∙ sym f)
+one-insertion w number prot disc r q e f = one-event w disc r q (e ∙ sym f)
 
 pub one-ejection : OneEjection
-one-ejection s r q e f = one-event r q (e ∙ sym f)
+one-ejection w r q e f = one-event w [] r q (e ∙ sym f)
 
 pub one-command : OneCommand
 one-command w p r q b c e f =

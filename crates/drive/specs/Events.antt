@@ -1,33 +1,36 @@
 -- Paper 01, "House refusals": insertion and ejection.
 use mathlib.Core.Bool.{Bool, cond}
-use mathlib.Core.List.{List}
+use mathlib.Core.List.{List, []}
 use Prim.Native.Nat.{ℕ}
 use lib.Dec.{eqb}
 use lib.ListN.{length}
-use Rattle.state.specs.declared.State.{State}
 use Rattle.state.specs.States.{insertedOf, ejectedOf}
 use Rattle.drive.specs.declared.EventReply.{EventReply}
+use Rattle.drive.specs.World.{World, world}
 use Rattle.drive.specs.House.{numberOf, firstRefusal, insertTests, ejectTests}
 
+-- the paper's house number, and the world after
 pub record Happened : Type 0 where
   pub house : ℕ
-  pub state : State
+  pub world : World
 
--- a reply, with the paper's number
-abbrev pub happened : EventReply → Happened
-happened r = record { house = numberOf (r .house); state = r .state }
+abbrev pub event : ℕ → World → Happened
+event house w = record { house = house; world = w }
 
-abbrev pub event : ℕ → State → Happened
-event house s = record { house = house; state = s }
+-- "Each returns its number .. and leaves state, disc, block buffer .. as they were."
+abbrev pub unlessRefused : ℕ → World → World → Happened
+unlessRefused house w next = cond (eqb house 0) (event 0 next) (event house w)
 
--- "Each returns its number .. and leaves state .. as they were."
-abbrev pub unlessRefused : ℕ → State → State → Happened
-unlessRefused house s next = cond (eqb house 0) (event 0 next) (event house s)
+-- a reply, the world before, and the disc that an accepted event leaves in: no event touches a byte of block buffer or disc
+abbrev pub happened : EventReply → World → List ℕ → Happened
+happened r w disc =
+    event (numberOf (r .house)) (world (r .state) (w .buffer) (cond (eqb (numberOf (r .house)) 0) disc (w .disc)))
 
 -- "Insertion tests 2, 5, 7, 4"
-unfoldable pub insertOf : State → ℕ → Bool → List ℕ → Happened
-insertOf s number prot disc = unlessRefused (firstRefusal (insertTests s number (length disc))) s (insertedOf s number prot)
+unfoldable pub insertOf : World → ℕ → Bool → List ℕ → Happened
+insertOf w number prot disc =
+    unlessRefused (firstRefusal (insertTests (w .state) number (length disc))) w (world (insertedOf (w .state) number prot) (w .buffer) disc)
 
--- "ejection 2, 6"
-unfoldable pub ejectOf : State → Happened
-ejectOf s = unlessRefused (firstRefusal (ejectTests s)) s (ejectedOf s)
+-- "ejection 2, 6"; no disc has length 0
+unfoldable pub ejectOf : World → Happened
+ejectOf w = unlessRefused (firstRefusal (ejectTests (w .state))) w (world (ejectedOf (w .state)) (w .buffer) [])

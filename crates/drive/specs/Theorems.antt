@@ -38,10 +38,11 @@ abbrev pub PowerOnSound : Type 0
 PowerOnSound = soundB powerOn ≡ true
 
 abbrev pub InsertKeeps : Type 0
-InsertKeeps = (s : State) (number : ℕ) (prot : Bool) (disc : List ℕ) → soundB s ≡ true → soundB (insertOf s number prot disc .state) ≡ true
+InsertKeeps =
+    (w : World) (number : ℕ) (prot : Bool) (disc : List ℕ) → soundB (w .state) ≡ true → soundB (insertOf w number prot disc .world .state) ≡ true
 
 abbrev pub EjectKeeps : Type 0
-EjectKeeps = (s : State) → soundB s ≡ true → soundB (ejectOf s .state) ≡ true
+EjectKeeps = (w : World) → soundB (w .state) ≡ true → soundB (ejectOf w .world .state) ≡ true
 
 abbrev pub CommandKeeps : Type 0
 CommandKeeps = (w : World) (p : List ℕ) → soundB (w .state) ≡ true → soundB (commandOf w p .world .state) ≡ true
@@ -59,11 +60,11 @@ OnePowerOn = (r q : State) → r ≡ powerOn → q ≡ powerOn → r ≡ q
 
 abbrev pub OneInsertion : Type 0
 OneInsertion =
-    (s : State) (number : ℕ) (prot : Bool) (disc : List ℕ) (r q : EventReply)
-    → happened r ≡ insertOf s number prot disc → happened q ≡ insertOf s number prot disc → r ≡ q
+    (w : World) (number : ℕ) (prot : Bool) (disc : List ℕ) (r q : EventReply)
+    → happened r w disc ≡ insertOf w number prot disc → happened q w disc ≡ insertOf w number prot disc → r ≡ q
 
 abbrev pub OneEjection : Type 0
-OneEjection = (s : State) (r q : EventReply) → happened r ≡ ejectOf s → happened q ≡ ejectOf s → r ≡ q
+OneEjection = (w : World) (r q : EventReply) → happened r w [] ≡ ejectOf w → happened q w [] ≡ ejectOf w → r ≡ q
 
 -- and so are the block buffers
 abbrev pub OneCommand : Type 0
@@ -93,15 +94,15 @@ pub record Refuses {A : Type 0} (house : ℕ) (number : A → ℕ) (answer refus
 
 abbrev pub InsertRefuses : Type 0
 InsertRefuses =
-    (s : State) (number : ℕ) (prot : Bool) (disc : List ℕ)
-    → let house = firstRefusal (insertTests s number (length disc)) in
-    Refuses house (λ (h : Happened). h .house) (insertOf s number prot disc) (record { house = house; state = s })
+    (w : World) (number : ℕ) (prot : Bool) (disc : List ℕ)
+    → let house = firstRefusal (insertTests (w .state) number (length disc)) in
+    Refuses house (λ (h : Happened). h .house) (insertOf w number prot disc) (record { house = house; world = w })
 
 abbrev pub EjectRefuses : Type 0
 EjectRefuses =
-    (s : State)
-    → let house = firstRefusal (ejectTests s) in
-    Refuses house (λ (h : Happened). h .house) (ejectOf s) (record { house = house; state = s })
+    (w : World)
+    → let house = firstRefusal (ejectTests (w .state)) in
+    Refuses house (λ (h : Happened). h .house) (ejectOf w) (record { house = house; world = w })
 
 abbrev pub CommandRefuses : Type 0
 CommandRefuses =

@@ -5,7 +5,7 @@ mod pulls;
 
 ghost use mathlib.Core.Path.{_≡_};
 ghost use Prim.Native.Nat.{ℕ};
-ghost use mathlib.Core.List.{List};
+ghost use mathlib.Core.List.{List, []};
 ghost use Rattle.state.specs.States.{powerOn};
 ghost use Rattle.drive.specs.House.{numberOf, firstRefusal, lentTests, commandTests, insertTests, ejectTests};
 ghost use Rattle.drive.specs.Events.{happened, unlessRefused, insertOf, ejectOf};
@@ -108,7 +108,8 @@ fn insert_house(state: State, number: u8, disc: usize) -> House
 
 // The reply to an event: a refusal leaves the state.
 fn unless_refused(house: House, state: State, next: State) -> EventReply
-    ensures { λ r. ⌜ happened r ≡ unlessRefused (numberOf house) state next ⌝ }
+    ensures { λ r. ⌜ ((buffer before disc : List ℕ)
+        → happened r (world state buffer before) disc ≡ unlessRefused (numberOf house) (world state buffer before) (world next buffer disc)) ⌝ }
 {
     if number_of(house) != 0 {
         return EventReply {
@@ -123,7 +124,8 @@ fn unless_refused(house: House, state: State, next: State) -> EventReply
 }
 
 pub fn insert(state: State, number: u8, protected: bool, disc: &[u8]) -> EventReply
-    ensures { λ r. ⌜ happened r ≡ insertOf state number protected (now (disc .entry)) ⌝ }
+    ensures { λ r. ⌜ ((buffer before : List ℕ)
+        → happened r (world state buffer before) (now (disc .entry)) ≡ insertOf (world state buffer before) number protected (now (disc .entry))) ⌝ }
 {
     let house = insert_house(state, number, disc.len());
     unless_refused(house, state, state::inserted(state, number, protected))
@@ -141,7 +143,7 @@ fn eject_house(state: State) -> House
 }
 
 pub fn eject(state: State) -> EventReply
-    ensures { λ r. ⌜ happened r ≡ ejectOf state ⌝ }
+    ensures { λ r. ⌜ ((buffer before : List ℕ) → happened r (world state buffer before) [] ≡ ejectOf (world state buffer before)) ⌝ }
 {
     unless_refused(eject_house(state), state, state::ejected(state))
 }

@@ -1,3 +1,4 @@
+use mathlib.Core.Path.{_∙_}
 use Rattle.drive.specs.Events.{ejectOf}
 use Rattle.drive.proofs.eject.Statement.{statement}
 use Rattle.drive.proofs.eject.Tie as tie
@@ -10,4 +11,5 @@ eject-spec =
     (λ _ _. tt)
     (λ _ _. tt)
     (λ _ _. tt)
-    (λ c. rw (c .unless-refused .ensures, c .before .ejected .ensures, c .before .before .eject-house .ensures)))
+    (λ c buffer before.
+    c .unless-refused .ensures buffer before _ ∙ rw (c .before .ejected .ensures, c .before .before .eject-house .ensures)))

@@ -1,3 +1,4 @@
+use mathlib.Core.Path.{_∙_}
 use Rattle.drive.specs.Events.{insertOf}
 use Rattle.drive.proofs.insert.Statement.{statement}
 use Rattle.drive.proofs.insert.Tie as tie
@@ -10,4 +11,5 @@ insert-spec =
     (λ _ _. tt)
     (λ _ _. tt)
     (λ _ _. tt)
-    (λ c. rw (c .unless-refused .ensures, c .before .inserted .ensures, c .before .before .insert-house .ensures)))
+    (λ c buffer before.
+    c .unless-refused .ensures buffer before _ ∙ rw (c .before .inserted .ensures, c .before .before .insert-house .ensures)))

@@ -7,5 +7,5 @@ unless-refused-spec =
     tie.close
     (tie.spec
     (λ _ _. tt)
-    (λ c. rw (← c .before .number-of .ensures, ne-eqb _ _ (c .if1 .taken)))
-    (λ c. rw (← c .before .number-of .ensures, c .if1 .left)))
+    (λ c _ _ _. rw (← c .before .number-of .ensures, ne-eqb _ _ (c .if1 .taken)))
+    (λ c _ _ _. rw (← c .before .number-of .ensures, c .if1 .left)))
