@@ -27,7 +27,7 @@ moveHouse w = firstRefusal (lentTests (w .state) (length (w .buffer)) (length (w
 abbrev pub unmovedOf : ℕ → World → Moved
 unmovedOf house w = record { house = house; count = 0; world = w }
 
--- n bytes have moved: the transfer that is left, and nothing else of the state
+-- n bytes have moved, and t is what is left of the transfer: "At 0 left the transfer closes."
 abbrev pub onwardOf : ℕ → Transfer → World → Moved
 onwardOf n t w = record { house = 0; count = n; world = world (movedOf (w .state) t) (w .buffer) (w .disc) }
 

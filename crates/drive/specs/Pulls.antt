@@ -10,7 +10,7 @@ use Rattle.answer.specs.Filling.{Filled, fillOf}
 use Rattle.drive.specs.World.{World}
 use Rattle.drive.specs.Moves.{Moved, moveHouse, unmovedOf, onwardOf, answerAfter, discAfter}
 
--- and the caller's buffer
+-- what moved, and the caller's buffer after
 pub record Pulled : Type 0 where
   pub moved : Moved
   pub out : List ℕ
@@ -23,7 +23,7 @@ pulled m out = record { moved = m; out = out }
 abbrev pub servedOf : List ℕ → ℕ → List ℕ → Filled
 servedOf source left out = fillOf (min (length out) left) source out
 
--- ".. disc and block buffer"
+-- "leaves .. disc and block buffer": nothing of the world but the transfer changes
 abbrev pub pulledOf : (ℕ → Transfer) → World → Filled → Pulled
 pulledOf after w f = pulled (onwardOf (f .count) (after (f .count)) w) (f .bytes)
 

@@ -1,4 +1,4 @@
--- What holds of the entries; proved in proofs/Keeps, proofs/Single, proofs/Refusing, proofs/Whole and proofs/Pending.
+-- What holds of the entries; proved, in this order, in proofs/Keeps and Moving, Single, Refusing, Houses, Whole and Pending.
 use mathlib.Core.Path.{_≡_}
 use mathlib.Core.Bool.{Bool, true, false, cond, not, _&&_, _||_}
 use mathlib.Core.List.{List, [], _∷_, _++_}
