@@ -7,5 +7,5 @@ opened-spec =
     tie.close
     (tie.spec
     (λ _ _. tt)
-    (λ c. rw (← c .before .left-of .ensures, eq-eqb _ _ (c .if1 .taken)))
-    (λ c. rw (← c .before .left-of .ensures, ne-eqb _ _ (c .if1 .left))))
+    (λ c. rw (← c .before .left-of .ensures, eq-eqb (c .before .left-of .result) 0 (c .if1 .taken)))
+    (λ c. rw (← c .before .left-of .ensures, ne-eqb (c .before .left-of .result) 0 (c .if1 .left))))
