@@ -1,4 +1,5 @@
-// The constant tables: the discs by number and, beside them, the masks of the base commands by row; and the two kinds of number.
+// The constant tables: the discs by number and, beside them, the masks of the base commands by row; the two kinds of number; and the
+// smaller of two counts, which all that moves bytes asks for.
 ghost use mathlib.Core.Path.{_≡_};
 ghost use Prim.Native.Nat.{min};
 ghost use Rattle.disc.specs.Formats.{formatOf, blockBytes, discBytes, runBytes, placeOf};

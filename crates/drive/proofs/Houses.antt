@@ -3,19 +3,22 @@ use mathlib.Core.Path.{_≡_, refl}
 use mathlib.Core.Bool.{Bool, true}
 use mathlib.Core.List.{List}
 use Prim.Native.Nat.{ℕ}
-use borrow.Author.Tests.{eq-eqb, eqb-true, not-false}
-use lib.Dec.{eqb}
+use native.Mathlib.Omega.{arith}
+use borrow.Author.Tests.{eq-eqb, ne-eqb, eqb-true, eqb-false, le-ltb, ltb-false, not-false}
+use lib.Dec.{eqb, ltb}
 use lib.ListN.{length}
 use Rattle.disc.specs.Formats.{bufferBytes, discBytes}
+use Rattle.disc.proofs.Truth.{neither}
+use Rattle.state.specs.declared.State.{State}
 use Rattle.state.specs.Sound.{soundB}
 use Rattle.packet.specs.Checks.{verdict}
 use Rattle.packet.proofs.First.{NoneFails, none-failed, barredB}
 use Rattle.drive.specs.declared.Test.{Test}
-use Rattle.drive.specs.House.{failsB, refusing, firstRefusal, lentTests, commandTests}
+use Rattle.drive.specs.House.{failsB, refusing, firstRefusal, insertTests, ejectTests, lentTests, commandTests}
 use Rattle.drive.specs.World.{World}
 use Rattle.drive.specs.Commands.{obeyedOf, commandHouse, commandOf}
 use Rattle.drive.specs.Moves.{moveHouse}
-use Rattle.drive.specs.Theorems.{Ready, Admits, CommandAdmits}
+use Rattle.drive.specs.Theorems.{Ready, Insertable, InsertAdmits, EjectAdmits, Admits, CommandAdmits}
 
 abbrev pub noneB : ℕ → Bool
 noneB house = eqb house 0
@@ -69,6 +72,50 @@ module _ (w : World) where
 
     pub was-ready : noneB (commandHouse w p) ≡ true → (length p ≡ 12) × Ready w
     was-ready none = in-command (eqb-true (commandHouse w p) 0 none)
+
+module _ (s : State) (number : ℕ) (disc : List ℕ) where
+  insertable : firstRefusal (insertTests s number (length disc)) ≡ 0 → Insertable s number disc
+  unfolding insertTests
+  insertable none =
+      let tests = insertTests s number (length disc) in
+      let test2 = let-pass tests refl (eq-eqb (firstRefusal tests) 0 none) in
+      let test5 = test2 .1 in
+      let test7 = test5 .1 in
+      let test4 = test7 .1 in
+      let (zero, above) = neither (eqb number 0) (ltb 4 number) (test7 .0) in
+      let some = eqb-false number 0 zero in
+      record {
+        sound = not-false (soundB s) (test2 .0);
+        none = eqb-true (s .disc) 0 (not-false (eqb (s .disc) 0) (test5 .0));
+        low = omega arith;
+        high = ltb-false 4 number above;
+        whole = eqb-true (length disc) (discBytes number) (not-false (eqb (length disc) (discBytes number)) (test4 .0));
+      }
+
+  inserts : Insertable s number disc → firstRefusal (insertTests s number (length disc)) ≡ 0
+  unfolding insertTests
+  inserts i =
+      let low = i .low in
+      rw (
+        i .sound,
+        i .none,
+        ne-eqb number 0 (λ z. omega arith),
+        le-ltb 4 number (i .high),
+        i .whole,
+        eq-eqb (discBytes number) (discBytes number) refl,
+      )
+
+pub insert-admits : InsertAdmits
+insert-admits s number disc = (insertable s number disc, inserts s number disc)
+
+pub eject-admits : EjectAdmits
+unfolding ejectTests
+eject-admits s = (
+  λ none.
+      let test2 = let-pass (ejectTests s) refl (eq-eqb (firstRefusal (ejectTests s)) 0 none) in
+      record { sound = not-false (soundB s) (test2 .0); is-in = eqb-false (s .disc) 0 (test2 .1 .0) },
+  λ e. rw (e .sound, ne-eqb (s .disc) 0 (e .is-in)),
+)
 
 pub admits : Admits
 admits w = (in-ready w, ready-in w)

@@ -1,11 +1,11 @@
--- Every entry keeps soundness. Assumes nothing.
+-- Insertion, ejection and command keep soundness. Assumes nothing.
 use mathlib.Core.Path.{_≡_, refl, ap}
 use mathlib.Core.Bool.{Bool, true, false, cond, _&&_}
 use mathlib.Core.List.{List, []}
 use Prim.Native.Nat.{ℕ, _+_, _*_, _/_, _%_, _≤_}
 use native.Mathlib.Nat.{add-mul, mul-le-mul-right, mul-mod-left, mul-zero}
 use native.Mathlib.Omega.{arith}
-use borrow.Author.Tests.{ltb-false, eqb-true, eqb-false, not-false, le-leb, lt-ltb, ne-eqb}
+use borrow.Author.Tests.{ltb-false, eqb-true, le-leb, lt-ltb, ne-eqb}
 use lib.Dec.{eqb, leb, ltb}
 use lib.ListN.{length}
 use Rattle.disc.specs.Formats.{bufferBytes, formatOf, blockBytes, runBytes, discBytes, placeOf}
@@ -36,7 +36,7 @@ use Rattle.drive.specs.Events.{event, unlessRefused, insertOf, ejectOf}
 use Rattle.drive.specs.World.{World, world}
 use Rattle.drive.specs.Commands.{spanOf, routineOf, performedOf, obeyedOf, commandHouse, commandOf}
 use Rattle.drive.specs.Theorems.{PowerOnSound, InsertKeeps, EjectKeeps, CommandKeeps}
-use Rattle.drive.proofs.Houses.{noneB, let-pass, was-ready}
+use Rattle.drive.proofs.Houses.{noneB, insert-admits, was-ready}
 
 pub power-on-sound : PowerOnSound
 unfolding soundB namedB openSoundB
@@ -53,16 +53,14 @@ module _ (w : World) (e : soundB (w .state) ≡ true) where
       here true q = sound q
 
 pub insert-keeps : InsertKeeps
-unfolding insertOf insertTests
+unfolding insertOf
 insert-keeps w number prot disc e =
     let s = w .state in
-    event-keeps w e (firstRefusal (insertTests s number (length disc))) (world (insertedOf s number prot) (w .buffer) disc)
+    let house = firstRefusal (insertTests s number (length disc)) in
+    event-keeps w e house (world (insertedOf s number prot) (w .buffer) disc)
     (λ none.
-    let test5 = let-pass (insertTests s number (length disc)) refl none .1 in
-    let test7 = test5 .1 in
-    let (zero, above) = neither (eqb number 0) (ltb 4 number) (test7 .0) in
-    inserted-sound s number prot (eqb-true (s .disc) 0 (not-false (eqb (s .disc) 0) (test5 .0))) (eqb-false number 0 zero)
-    (ltb-false 4 number above) e)
+    let i = insert-admits s number disc .0 (eqb-true house 0 none) in
+    inserted-sound s number prot (i .none) (λ z. omega (arith, i .low, z)) (i .high) e)
 
 pub eject-keeps : EjectKeeps
 unfolding ejectOf

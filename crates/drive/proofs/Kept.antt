@@ -1,21 +1,21 @@
--- What a call that is no event keeps: the disc's number, the lengths of what is lent, and the flags but for the one that it reports.
--- Assumes nothing.
+-- What a call keeps: a ready world; the flags but for the one that a command reports. Assumes nothing.
 use mathlib.Core.Path.{_≡_, refl, _∙_}
-use mathlib.Core.Bool.{Bool, true, false, true≢false}
-use mathlib.Core.List.{List}
+use mathlib.Core.Bool.{Bool, true, false, cond, true≢false}
+use mathlib.Core.List.{List, []}
 use Prim.Native.Nat.{ℕ, _/_, min}
 use native.Mathlib.Omega.{arith}
+use borrow.Author.Tests.{eqb-true, eqb-false}
 use lib.ListN.{length, take}
 use lib.Seq.{length-take-le}
-use Rattle.disc.specs.Formats.{blockBytes}
+use Rattle.disc.specs.Formats.{formatOf, blockBytes, runBytes, discBytes}
 use Rattle.disc.proofs.Table.{block-fits, block-holds}
 use Rattle.state.specs.Sound.{soundB}
-use Rattle.state.specs.States.{failedOf, passedOf, movedOf}
+use Rattle.state.specs.States.{insertedOf, ejectedOf, failedOf, passedOf, movedOf}
 use Rattle.state.specs.declared.Failure.{Failure}
 use Rattle.state.specs.declared.Failure.the-variants.{Pending, Found}
 use Rattle.state.specs.declared.Transfer.{Transfer}
 use Rattle.state.specs.declared.Transfer.the-variants.{Closed, Answer as AnswerFrom, Read as ReadFrom, Write as WriteTo}
-use Rattle.state.proofs.Keeps.{failed-disc}
+use Rattle.state.proofs.Keeps.{failed-disc, inserted-sound, ejected-sound}
 use Rattle.packet.specs.Fields.{byteAt, lengthOf}
 use Rattle.packet.specs.Checks.{verdict}
 use Rattle.packet.specs.declared.Verdict.{Verdict}
@@ -24,12 +24,14 @@ use Rattle.packet.specs.declared.Routine.{Routine}
 use Rattle.packet.specs.declared.Routine.the-variants.{Nothing, Motor, Answer, Read, Write}
 use Rattle.answer.proofs.Lengths.{give-length}
 use Rattle.drive.specs.World.{World, world}
+use Rattle.drive.specs.House.{firstRefusal, insertTests, ejectTests}
+use Rattle.drive.specs.Events.{event, unlessRefused, insertOf, ejectOf}
 use Rattle.drive.specs.Commands.{routineOf, performedOf, obeyedOf, commandHouse, commandOf}
 use Rattle.drive.specs.Moves.{discAfter}
 use Rattle.drive.specs.Feeds.{writing, takenOf, feedingOf, feedOf}
 use Rattle.drive.specs.Pulls.{pullingOf, pullOf}
-use Rattle.drive.specs.Theorems.{Ready, Call, Command, Feed, Pull, callOf}
-use Rattle.drive.proofs.Houses.{noneB}
+use Rattle.drive.specs.Theorems.{Ready, Call, Command, Feed, Pull, callOf, CallReady, InsertReady, EjectReady}
+use Rattle.drive.proofs.Houses.{noneB, insert-admits}
 use Rattle.drive.proofs.Keeps.{command-keeps}
 use Rattle.drive.proofs.Moving.{feed-keeps, pull-keeps}
 use Rattle.drive.proofs.Feeding.{feed-lengths}
@@ -136,9 +138,48 @@ module _ (w : World) where
         here false q = rw q r
         here true q = ready-with (commandOf w p .world) (rw q (obeyed-lent w p (verdict (w .state) p))) (command-keeps w p (r .sound))
 
-    pub call-ready : (c : Call) → Ready (callOf w c)
-    call-ready (Command p) = ready-next p
-    call-ready (Feed x) =
+    after-call : (c : Call) → Ready (callOf w c)
+    after-call (Command p) = ready-next p
+    after-call (Feed x) =
         ready-with (feedOf w x .world) (rw (feeds w r x) (feeding-keeps x (w .state .transfer) refl .0)) (feed-keeps w x (r .sound))
-    call-ready (Pull x) =
+    after-call (Pull x) =
         ready-with (pullOf w x .moved .world) (rw (pulls w r x) (pulling-keeps x (w .state .transfer) .0)) (pull-keeps w x (r .sound))
+
+pub call-ready : CallReady
+call-ready w c r = after-call w r c
+
+module _ (w : World) (r : Ready w) where
+  event-ready : (house : ℕ) (next : World) (disc : List ℕ) → (noneB house ≡ true → Ready next) → next .disc ≡ disc → next .buffer ≡ w .buffer
+      → let h = unlessRefused house w next in
+      Ready (h .world) × (h .house ≡ 0 → (h .world .disc ≡ disc) × (h .world .buffer ≡ w .buffer))
+  event-ready house next disc ready d b = here (noneB house) refl
+    where
+      here : (t : Bool) → noneB house ≡ t
+          → let h = cond t (event 0 next) (event house w) in
+          Ready (h .world) × (h .house ≡ 0 → (h .world .disc ≡ disc) × (h .world .buffer ≡ w .buffer))
+      here true q = (ready q, λ _. (d, b))
+      here false q = (r, λ z. absurd (eqb-false house 0 q z))
+
+pub insert-ready : InsertReady
+unfolding insertOf insertedOf
+insert-ready w number prot disc r =
+    let s = w .state in
+    let house = firstRefusal (insertTests s number (length disc)) in
+    event-ready w r house (world (insertedOf s number prot) (w .buffer) disc) disc
+    (λ none.
+    let i = insert-admits s number disc .0 (eqb-true house 0 none) in
+    record {
+      sound = inserted-sound s number prot (i .none) (λ z. omega (arith, i .low, z)) (i .high) (r .sound);
+      buffer = r .buffer;
+      disc = i .whole;
+    })
+    refl
+    refl
+
+pub eject-ready : EjectReady
+unfolding ejectOf ejectedOf discBytes runBytes blockBytes formatOf
+eject-ready w r =
+    event-ready w r (firstRefusal (ejectTests (w .state))) (world (ejectedOf (w .state)) (w .buffer) []) []
+    (λ _. record { sound = ejected-sound (w .state) (r .sound); buffer = r .buffer; disc = refl })
+    refl
+    refl

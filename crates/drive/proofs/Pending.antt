@@ -114,7 +114,7 @@ module _ (cs : List Call)
     (w : World) (r : Ready w) (on : w .state .change ≡ true) where
   -- the rest of the run reports it
   later : (c : Call) → callOf w c .state .change ≡ true → needed (callOf w c .state) ≤ attendedCount cs → someReportsB w (c ∷ cs) ≡ true
-  later c change few = rw (more (callOf w c) (call-ready w r c) change few) (or-true (reportsB w c))
+  later c change few = rw (more (callOf w c) (call-ready w c r) change few) (or-true (reportsB w c))
 
   module _ (p : List ℕ) where
     after-it : commandOf w p .world .state .change ≡ true → needed (commandOf w p .world .state) ≤ attendedCount cs

@@ -26,11 +26,11 @@ abbrev pub happened : EventReply → World → List ℕ → Happened
 happened r w disc =
     event (numberOf (r .house)) (world (r .state) (w .buffer) (cond (eqb (numberOf (r .house)) 0) disc (w .disc)))
 
--- "Insertion tests 2, 5, 7, 4"
+-- the disc that was lent for it is in afterwards
 unfoldable pub insertOf : World → ℕ → Bool → List ℕ → Happened
 insertOf w number prot disc =
     unlessRefused (firstRefusal (insertTests (w .state) number (length disc))) w (world (insertedOf (w .state) number prot) (w .buffer) disc)
 
--- "ejection 2, 6"; no disc has length 0
+-- none is in afterwards: length "0 for none"
 unfoldable pub ejectOf : World → Happened
 ejectOf w = unlessRefused (firstRefusal (ejectTests (w .state))) w (world (ejectedOf (w .state)) (w .buffer) [])

@@ -44,7 +44,7 @@ taken count after = record { count = count; after = after }
 unfoldable pub takenOf : ℕ → ℕ → Writing → List ℕ → Taken
 takenOf number n w piece = taken n (feedBytes (blockBytes number) w (take n piece))
 
--- the world after a write took bytes
+-- what a write that took bytes leaves
 abbrev pub fedOf : World → DiscAt → Taken → Moved
 fedOf w p t =
     onwardOf (t .count) (Write (discAfter p (t .count))) (world (w .state) (t .after .buffer) (t .after .disc))

@@ -19,7 +19,7 @@ pub record Moved : Type 0 where
 abbrev pub moved : MoveReply → List ℕ → List ℕ → Moved
 moved r buffer disc = record { house = numberOf (r .house); count = r .count; world = world (r .state) buffer disc }
 
--- "feed and pull 2, 3, 4"
+-- the first of tests 2, 3, 4 to fail
 abbrev pub moveHouse : World → ℕ
 moveHouse w = firstRefusal (lentTests (w .state) (length (w .buffer)) (length (w .disc)))
 

@@ -1,4 +1,4 @@
--- What holds of the entries; proved, in this order, in proofs/Keeps and Moving, Single, Refusing, Houses, Whole and Pending.
+-- What holds of the entries; proved in proofs/Keeps, Moving, Kept, Single, Refusing, Houses, Whole and Pending.
 use mathlib.Core.Path.{_≡_}
 use mathlib.Core.Bool.{Bool, true, false, cond, not, _&&_, _||_}
 use mathlib.Core.List.{List, [], _∷_, _++_}
@@ -52,6 +52,41 @@ FeedKeeps = (w : World) (piece : List ℕ) → soundB (w .state) ≡ true → so
 
 abbrev pub PullKeeps : Type 0
 PullKeeps = (w : World) (out : List ℕ) → soundB (w .state) ≡ true → soundB (pullOf w out .moved .world .state) ≡ true
+
+-- a sound state with the right buffers
+pub record Ready (w : World) : Type 0 where
+  pub sound : soundB (w .state) ≡ true
+  pub buffer : length (w .buffer) ≡ bufferBytes
+  pub disc : length (w .disc) ≡ discBytes (w .state .disc)
+
+-- a call that is no event, with what is lent for it: a packet, a piece, the caller's buffer
+pub data Call : Type 0 where
+  Command : List ℕ → Call
+  Feed : List ℕ → Call
+  Pull : List ℕ → Call
+
+-- the world after it
+abbrev pub callOf : World → Call → World
+callOf w (Command p) = commandOf w p .world
+callOf w (Feed x) = feedOf w x .world
+callOf w (Pull x) = pullOf w x .moved .world
+
+-- and what a call leaves has the right lengths
+abbrev pub CallReady : Type 0
+CallReady = (w : World) (c : Call) → Ready w → Ready (callOf w c)
+
+-- an accepted insertion leaves the disc that was lent for it, an accepted ejection none; neither touches the block buffer
+abbrev pub InsertReady : Type 0
+InsertReady =
+    (w : World) (number : ℕ) (prot : Bool) (disc : List ℕ) → Ready w
+    → let h = insertOf w number prot disc in
+    Ready (h .world) × (h .house ≡ 0 → (h .world .disc ≡ disc) × (h .world .buffer ≡ w .buffer))
+
+abbrev pub EjectReady : Type 0
+EjectReady =
+    (w : World) → Ready w
+    → let h = ejectOf w in
+    Ready (h .world) × (h .house ≡ 0 → (h .world .disc ≡ []) × (h .world .buffer ≡ w .buffer))
 
 -- ---- "Show that two answers allowed by the promise are equal"
 
@@ -123,17 +158,36 @@ PullRefuses =
     Refuses house (λ (p : Pulled). p .moved .house) (pullOf w out)
     (record { moved = record { house = house; count = 0; world = w }; out = out })
 
--- a sound state with the right buffers
-pub record Ready (w : World) : Type 0 where
-  pub sound : soundB (w .state) ≡ true
-  pub buffer : length (w .buffer) ≡ bufferBytes
-  pub disc : length (w .disc) ≡ discBytes (w .state .disc)
+-- an insertion is admitted exactly with no disc in, a number from 1 to 4 and a disc of its length
+pub record Insertable (s : State) (number : ℕ) (disc : List ℕ) : Type 0 where
+  pub sound : soundB s ≡ true
+  pub none : s .disc ≡ 0
+  pub low : 1 ≤ number
+  pub high : number ≤ 4
+  pub whole : length disc ≡ discBytes number
 
--- tests 2, 3 and 4 admit a call exactly then
+abbrev pub InsertAdmits : Type 0
+InsertAdmits =
+    (s : State) (number : ℕ) (disc : List ℕ)
+    → let house = firstRefusal (insertTests s number (length disc)) in
+    (house ≡ 0 → Insertable s number disc) × (Insertable s number disc → house ≡ 0)
+
+-- an ejection exactly with a disc in
+pub record Ejectable (s : State) : Type 0 where
+  pub sound : soundB s ≡ true
+  pub is-in : s .disc ≡ 0 → ⊥
+
+abbrev pub EjectAdmits : Type 0
+EjectAdmits =
+    (s : State)
+    → let house = firstRefusal (ejectTests s) in
+    (house ≡ 0 → Ejectable s) × (Ejectable s → house ≡ 0)
+
+-- a feed or a pull exactly in a ready world
 abbrev pub Admits : Type 0
 Admits = (w : World) → (moveHouse w ≡ 0 → Ready w) × (Ready w → moveHouse w ≡ 0)
 
--- and a command exactly if its packet is right too
+-- and a command exactly if its packet has 12 bytes too
 abbrev pub CommandAdmits : Type 0
 CommandAdmits =
     (w : World) (p : List ℕ) → (commandHouse w p ≡ 0 → (length p ≡ 12) × Ready w) × (length p ≡ 12 → Ready w → commandHouse w p ≡ 0)
@@ -178,7 +232,7 @@ AllOldOrAllNew =
     → blockOf number (feedBytes (blockBytes number) w xs .disc) k
     ≡ cond (completesB number (w .at) (length xs) k) (gatheredOf number w xs k) (blockOf number (w .disc) k)
 
--- and so after any feed
+-- and so after any accepted feed of an open write
 abbrev pub FedAllOldOrAllNew : Type 0
 FedAllOldOrAllNew =
     (w : World) (piece : List ℕ) (p : DiscAt) (k : BlockAddress) → Ready w → w .state .transfer ≡ Write p
@@ -203,18 +257,6 @@ attendedB p =
     && baseB (ruleOf (byteAt p 0))
     && not (otherUnitB p)
     && not (eqb (byteAt p 0) 0x03 || eqb (byteAt p 0) 0x12)
-
--- a call that is no event, with what is lent for it: a packet, a piece, the caller's buffer
-pub data Call : Type 0 where
-  Command : List ℕ → Call
-  Feed : List ℕ → Call
-  Pull : List ℕ → Call
-
--- the world after it
-abbrev pub callOf : World → Call → World
-callOf w (Command p) = commandOf w p .world
-callOf w (Feed x) = feedOf w x .world
-callOf w (Pull x) = pullOf w x .moved .world
 
 abbrev pub attendsB : Call → Bool
 attendsB (Command p) = attendedB p

@@ -1,4 +1,4 @@
--- All that a call can change.
+-- All that a call can change but the caller's buffer.
 use mathlib.Core.List.{List}
 use Prim.Native.Nat.{ℕ}
 use Rattle.state.specs.declared.State.{State}

@@ -10,8 +10,7 @@ ghost use Rattle.disc.specs.Formats.{bufferBytes, blockBytes};
 ghost use Rattle.drive.specs.Places.{Block, Place, WriteSpan, restOf};
 ghost use Rattle.drive.specs.Feeds.{writing, taken, takenOf};
 
-// Copies a complete block from the block buffer to the disc, where its first byte stands. The format is asked at every byte: this
-// leaf alone changes when the length is taken once.
+// Copies a complete block from the block buffer to the disc, where its first byte stands. It asks the format at every byte.
 fn store_block(buffer: &[u8], first: BytePlace, number: u8, disc: &mut [u8])
     requires { ⌜ Block number (first .0) (now buffer) (now disc) ⌝ }
     ensures { λ _. ⌜ now (disc .exit) ≡ paste (now (disc .entry)) (first .0) (now (buffer .entry)) (blockBytes number) ⌝ }

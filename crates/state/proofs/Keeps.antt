@@ -14,7 +14,7 @@ use Rattle.state.specs.declared.Failure.the-variants.{Pending, Found}
 use Rattle.state.specs.declared.Transfer.{Transfer}
 use Rattle.state.specs.declared.Transfer.the-variants.{Closed, Answer, Read, Write}
 use Rattle.state.specs.Senses.{senseOf, namedB}
-use Rattle.state.specs.States.{leftOf, openedOf, senseAfter, insertedOf, ejectedOf, failedOf, passedOf, movedOf}
+use Rattle.state.specs.States.{leftOf, closedAtZero, senseAfter, insertedOf, ejectedOf, failedOf, passedOf, movedOf}
 use Rattle.state.specs.Sound.{onDiscB, openSoundB, soundB}
 
 -- the clauses of soundness
@@ -62,10 +62,10 @@ failed-disc s (Found fault) = refl
 
 -- ---- a passed command and moved bytes: what is left of a transfer is open
 
-opened-sound : (number : ℕ) (prot : Bool) (t : Transfer) → ((leftOf t ≡ 0 → ⊥) → openSoundB number prot t ≡ true)
-    → openSoundB number prot (openedOf t) ≡ true
+left-sound : (number : ℕ) (prot : Bool) (t : Transfer) → ((leftOf t ≡ 0 → ⊥) → openSoundB number prot t ≡ true)
+    → openSoundB number prot (closedAtZero t) ≡ true
 unfolding openSoundB
-opened-sound number prot t some = here (eqb (leftOf t) 0) refl
+left-sound number prot t some = here (eqb (leftOf t) 0) refl
   where
     here : (b : Bool) → eqb (leftOf t) 0 ≡ b → openSoundB number prot (cond b Closed t) ≡ true
     here true q = refl
@@ -74,11 +74,11 @@ opened-sound number prot t some = here (eqb (leftOf t) 0) refl
 module _ (s : State) (e : soundB s ≡ true) (t : Transfer) (some : (leftOf t ≡ 0 → ⊥) → openSoundB (s .disc) (s .protected) t ≡ true) where
   pub passed-sound : (motor : Bool) → soundB (passedOf s motor t) ≡ true
   unfolding soundB passedOf namedB
-  passed-sound motor = let p = parts s e in rw (p .low, p .bare, opened-sound (s .disc) (s .protected) t some)
+  passed-sound motor = let p = parts s e in rw (p .low, p .bare, left-sound (s .disc) (s .protected) t some)
 
   pub moved-sound : soundB (movedOf s t) ≡ true
   unfolding soundB movedOf
-  moved-sound = let p = parts s e in rw (p .low, p .bare, p .named, opened-sound (s .disc) (s .protected) t some)
+  moved-sound = let p = parts s e in rw (p .low, p .bare, p .named, left-sound (s .disc) (s .protected) t some)
 
 -- a transfer that is open without a disc stays sound with one
 with-disc : (number : ℕ) (off prot : Bool) (t : Transfer) → openSoundB 0 off t ≡ true → openSoundB number prot t ≡ true

@@ -1,4 +1,4 @@
--- Paper 01, "State": what the drive remembers, and what events and commands make of it.
+-- Paper 01, "State": what the drive remembers, and what each kind of call makes of it.
 use mathlib.Core.Bool.{Bool, true, false, cond}
 use Prim.Native.Nat.{ℕ}
 use lib.Dec.{eqb}
@@ -41,8 +41,8 @@ leftOf (Read p) = p .left
 leftOf (Write p) = p .left
 
 -- "with 0 bytes it stays closed"; "length 0 passes and stays closed"; "At 0 left the transfer closes."
-abbrev pub openedOf : Transfer → Transfer
-openedOf t = cond (eqb (leftOf t) 0) Closed t
+abbrev pub closedAtZero : Transfer → Transfer
+closedAtZero t = cond (eqb (leftOf t) 0) Closed t
 
 -- "Insertion sets number, protection and the change flag, nothing else."
 unfoldable pub insertedOf : State → ℕ → Bool → State
@@ -68,8 +68,8 @@ failedOf s (Found fault) = withTransfer s (senseOf (Found fault)) Closed
 
 -- a passed command: "A command that passes sets the sense to 00 00 00, also INQUIRY."
 unfoldable pub passedOf : State → Bool → Transfer → State
-passedOf s motor transfer = stateOf (s .disc) (s .protected) motor (s .«power_on») (s .change) noSense (openedOf transfer)
+passedOf s motor transfer = stateOf (s .disc) (s .protected) motor (s .«power_on») (s .change) noSense (closedAtZero transfer)
 
 -- a feed or a pull: nothing but the transfer changes
 unfoldable pub movedOf : State → Transfer → State
-movedOf s transfer = withTransfer s (s .sense) (openedOf transfer)
+movedOf s transfer = withTransfer s (s .sense) (closedAtZero transfer)

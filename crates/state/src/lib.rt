@@ -3,7 +3,7 @@ ghost use mathlib.Core.Path.{_≡_};
 ghost use Prim.Native.Nat.{_+_};
 ghost use lib.Dec.{leb};
 ghost use Rattle.state.specs.Senses.{senseOf, sameB, namedB};
-ghost use Rattle.state.specs.States.{powerOn, withTransfer, leftOf, openedOf, insertedOf, senseAfter, ejectedOf, failedOf, passedOf, movedOf};
+ghost use Rattle.state.specs.States.{powerOn, withTransfer, leftOf, closedAtZero, insertedOf, senseAfter, ejectedOf, failedOf, passedOf, movedOf};
 ghost use Rattle.state.specs.Sound.{endsOnBlockB, onDiscB, openSoundB, soundB};
 use disc::BytePlace;
 
@@ -164,9 +164,8 @@ fn left_of(transfer: Transfer) -> usize
     }
 }
 
-// With no byte left a transfer is closed.
-fn opened(transfer: Transfer) -> Transfer
-    ensures { λ r. ⌜ r ≡ openedOf transfer ⌝ }
+fn closed_at_zero(transfer: Transfer) -> Transfer
+    ensures { λ r. ⌜ r ≡ closedAtZero transfer ⌝ }
 {
     if left_of(transfer) == 0 {
         return Transfer::Closed;
@@ -234,7 +233,7 @@ pub fn passed(state: State, motor: bool, transfer: Transfer) -> State
     ensures { λ r. ⌜ r ≡ passedOf state motor transfer ⌝ }
 {
     let sense = NO_SENSE;
-    let mut next = with_transfer(state, sense, opened(transfer));
+    let mut next = with_transfer(state, sense, closed_at_zero(transfer));
     next.motor = motor;
     next
 }
@@ -244,7 +243,7 @@ pub fn moved(state: State, transfer: Transfer) -> State
     ensures { λ r. ⌜ r ≡ movedOf state transfer ⌝ }
 {
     let sense = state.sense;
-    with_transfer(state, sense, opened(transfer))
+    with_transfer(state, sense, closed_at_zero(transfer))
 }
 
 // `at + left <= limit`, with no sum that could wrap.

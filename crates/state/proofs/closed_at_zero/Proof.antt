@@ -1,9 +1,9 @@
 use borrow.Author.Tests.{eq-eqb, ne-eqb}
-use Rattle.state.proofs.opened.Statement.{statement}
-use Rattle.state.proofs.opened.Tie as tie
+use Rattle.state.proofs.closed_at_zero.Statement.{statement}
+use Rattle.state.proofs.closed_at_zero.Tie as tie
 
-pub opened-spec : {M : Type 1} → statement M
-opened-spec =
+pub closed-at-zero-spec : {M : Type 1} → statement M
+closed-at-zero-spec =
     tie.close
     (tie.spec
     (λ _ _. tt)
