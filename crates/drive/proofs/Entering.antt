@@ -1,5 +1,5 @@
 -- A ready world's open transfer is one that the functions that move bytes can serve. Assumes nothing.
-use mathlib.Core.Path.{_≡_, refl}
+use mathlib.Core.Path.{_≡_, refl, ap, _∙_}
 use mathlib.Core.List.{List, [], _∷_}
 use Prim.Native.Nat.{ℕ}
 use native.Mathlib.Omega.{arith}
@@ -14,11 +14,13 @@ use Rattle.state.specs.Sound.{openSoundB}
 use Rattle.state.proofs.Transfer.{the-type}
 use Rattle.state.proofs.Keeps.{parts}
 use Rattle.state.proofs.Transfers.{OnDisc, in-buffer, on-disc, writes}
+use Rattle.answer.specs.Filling.{Filled, filled}
+use Rattle.drive.specs.declared.MoveReply.{MoveReply}
 use Rattle.drive.specs.World.{World}
 use Rattle.drive.specs.Places.{AnswerSpan, ReadSpan, WriteSpan}
-use Rattle.drive.specs.Moves.{unmovedOf}
+use Rattle.drive.specs.Moves.{Moved, moved, unmovedOf, onwardOf}
 use Rattle.drive.specs.Feeds.{feedingOf, feedOf}
-use Rattle.drive.specs.Pulls.{pulled, pullingOf, pullOf}
+use Rattle.drive.specs.Pulls.{pulled, pulledOf, pullingOf, pullOf}
 use Rattle.drive.specs.Theorems.{Ready}
 use Rattle.drive.proofs.Houses.{ready-in}
 
@@ -53,6 +55,12 @@ module _ (w : World) (r : Ready w) where
   pub pulls : (out : List ℕ) → pullOf w out ≡ pullingOf (w .state .transfer) w out
   unfolding pullOf
   pulls out = rw (ready-in w r)
+
+  -- a pull that moved bytes, from what is promised of them and of its reply
+  pub pulled-on : (out last : List ℕ) (after : ℕ → Transfer) (served : Filled) (count : ℕ) (reply : MoveReply)
+      → pullingOf (w .state .transfer) w out ≡ pulledOf after w served → filled count last ≡ served
+      → moved reply (w .buffer) (w .disc) ≡ onwardOf count (after count) w → pulled (moved reply (w .buffer) (w .disc)) last ≡ pullOf w out
+  pulled-on out last after served count reply p f m = ap (λ (x : Moved). pulled x last) m ∙ rw (pulls out, p) (ap (pulledOf after w) f)
 
 -- what the default of a `match` on the transfer is given, that its tag is none of the others', is enough
 module _ (w : World) where

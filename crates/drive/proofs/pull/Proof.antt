@@ -1,16 +1,15 @@
 use mathlib.Core.Path.{sym, _∙_, ap}
 use native.Mathlib.Omega.{arith}
 use borrow.Author.Needs.{needs}
-use Rattle.state.specs.States.{movedOf}
 use Rattle.state.specs.declared.Transfer.the-variants.{Answer, Read}
 use Rattle.answer.specs.Filling.{Filled}
 use Rattle.drive.specs.World.{World, world}
 use Rattle.drive.specs.Moves.{Moved, answerAfter, discAfter}
-use Rattle.drive.specs.Pulls.{pulled, pulledOf}
+use Rattle.drive.specs.Pulls.{pulled}
 use Rattle.drive.specs.Theorems.{Ready}
 use Rattle.drive.proofs.Houses.{in-ready}
 use Rattle.drive.proofs.Refusing.{pull-refuses}
-use Rattle.drive.proofs.Entering.{may-answer, may-read, pulls, unpulled}
+use Rattle.drive.proofs.Entering.{may-answer, may-read, pulls, pulled-on, unpulled}
 use Rattle.drive.proofs.pull.Statement.{statement}
 use Rattle.drive.proofs.pull.Tie as tie
 
@@ -47,17 +46,13 @@ answer-after-requires c _ =
     record { within = omega (arith, n); end = omega (arith, within, past .before .before .before .before .before .before) }
 
 returns-2 : tie.Need-returns-2
-unfolding movedOf
 returns-2 c =
     let call = c .before .before .before .before in
     let transfer = call .before .before .before in
     let past = transfer .before .before in
-    let w = lent past in
-    let out = past .before .before .before .before .before .before .args .out .now in
     let from = transfer .transfer .given .0 .0 in
-    ap (λ (m : Moved). pulled m (call .pull-answer .last .1 .1 .0)) (c .onward .ensures _ _)
-    ∙ rw (pulls w (ready past) out, transfer .transfer .given .1, c .before .answer-after .ensures)
-    (ap (pulledOf (λ n. Answer (answerAfter from n)) w) (call .pull-answer .ensures))
+    pulled-on (lent past) (ready past) _ _ (λ n. Answer (answerAfter from n)) _ _ (c .onward .result) (rw (transfer .transfer .given .1)) (call .pull-answer .ensures)
+    (rw (← c .before .answer-after .ensures) (c .onward .ensures _ _))
 
 -- ---- a read
 
@@ -77,17 +72,13 @@ disc-after-requires c _ =
     record { within = omega (arith, n); end = omega (arith, within, past .before .before .before .before .before .before) }
 
 returns-3 : tie.Need-returns-3
-unfolding movedOf
 returns-3 c =
     let call = c .before .before .before .before in
     let transfer = call .before .before .before in
     let past = transfer .before .before in
-    let w = lent past in
-    let out = past .before .before .before .before .before .before .args .out .now in
     let from = transfer .transfer2 .given .0 .0 in
-    ap (λ (m : Moved). pulled m (call .pull-blocks .last .1 .1 .1 .0)) (c .onward2 .ensures _ _)
-    ∙ rw (pulls w (ready past) out, transfer .transfer2 .given .1, c .before .disc-after .ensures)
-    (ap (pulledOf (λ n. Read (discAfter from n)) w) (call .pull-blocks .ensures))
+    pulled-on (lent past) (ready past) _ _ (λ n. Read (discAfter from n)) _ _ (c .onward2 .result) (rw (transfer .transfer2 .given .1)) (call .pull-blocks .ensures)
+    (rw (← c .before .disc-after .ensures) (c .onward2 .ensures _ _))
 
 -- ---- nothing to pull
 
