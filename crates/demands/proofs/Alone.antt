@@ -1,0 +1,90 @@
+-- What is heard of a device that meets the demands is the ledger's alone, so two such devices are heard alike. Assumes nothing.
+use mathlib.Core.Path.{_≡_, refl, sym, ap, _∙_}
+use mathlib.Core.Bool.{Bool, true, false}
+use mathlib.Core.List.{List, [], _∷_}
+use Prim.Native.Nat.{ℕ}
+use borrow.Author.Tests.{eqb-true}
+use lib.Dec.{eqb}
+use lib.ListN.{length}
+use Rattle.disc.specs.Formats.{formatOf, blockBytes, runBytes, discBytes, bufferBytes}
+use Rattle.drive.specs.World.{World, world}
+use Rattle.drive.specs.House.{lentTests, commandTests}
+use Rattle.drive.specs.Theorems.{Ready}
+use Rattle.drive.proofs.Houses.{admits}
+use Rattle.drive.proofs.Keeps.{power-on-sound}
+use Rattle.demands.specs.Device.{Call, Insert, Eject, Command, Feed, Pull, Heard, Device}
+use Rattle.demands.specs.Answered.{houseOf, Answered}
+use Rattle.demands.specs.Ledger.{Ledger, Facts, known, noted}
+use Rattle.demands.specs.Faithful.{Run, step, run, poweredOn, Accounted, Faithful, foretold}
+use Rattle.demands.specs.Demands.{heardIn, HeardAlike}
+
+-- a run of a device so far: the world is ready, and whatever follows is accounted for
+record Going (d : Device) (r : Run) : Type 0 where
+  ready : Ready (r .world)
+  accounted : (cs : List Call) → Accounted d (run d r cs)
+
+goes-on : (d : Device) → Answered d → (r : Run) → Going d r → (c : Call) → Going d (step d r c)
+goes-on d a r g c = record { ready = a .stays (r .world) c (g .ready); accounted = λ cs. g .accounted (c ∷ cs) }
+
+foretold-house : (l : Ledger) (w : World)
+    → foretold l (w .buffer) (w .disc) (Feed []) .house ≡ houseOf (world (known (l .facts)) (w .buffer) (w .disc)) (Feed [])
+unfolding foretold
+foretold-house l w = here (eqb house 0) refl
+  where
+    house : ℕ
+    house = houseOf (world (known (l .facts)) (w .buffer) (w .disc)) (Feed [])
+
+    here : (b : Bool) → eqb house 0 ≡ b → foretold l (w .buffer) (w .disc) (Feed []) .house ≡ house
+    here true q = rw q (sym (eqb-true house 0 q))
+    here false q = rw q
+
+-- the lengths that are lent are those that the ledger knows of
+knows-lengths : (d : Device) → Answered d → (r : Run) → Going d r → Ready (world (known (r .ledger .facts)) (r .world .buffer) (r .world .disc))
+knows-lengths d a r g =
+    let w = r .world in
+    let heard = ap (λ (h : Heard). h .house) (g .accounted [] .hears (Feed [])) in
+    admits (world (known (r .ledger .facts)) (w .buffer) (w .disc)) .0
+    (sym (heard ∙ foretold-house (r .ledger) w) ∙ a .numbered w (Feed []) ∙ admits w .1 (g .ready))
+
+-- and the house tests ask for no more
+same-house : (f : Facts) (w v : World) → length (w .buffer) ≡ length (v .buffer) → length (w .disc) ≡ length (v .disc) → (c : Call)
+    → houseOf (world (known f) (w .buffer) (w .disc)) c ≡ houseOf (world (known f) (v .buffer) (v .disc)) c
+unfolding lentTests commandTests
+same-house f w v b d (Insert number prot disc) = refl
+same-house f w v b d Eject = refl
+same-house f w v b d (Command p) = rw (b, d)
+same-house f w v b d (Feed piece) = rw (b, d)
+same-house f w v b d (Pull out) = rw (b, d)
+
+same-foretold : (l : Ledger) (w v : World) → length (w .buffer) ≡ length (v .buffer) → length (w .disc) ≡ length (v .disc) → (c : Call)
+    → foretold l (w .buffer) (w .disc) c ≡ foretold l (v .buffer) (v .disc) c
+unfolding foretold
+same-foretold l w v b d c = rw (same-house (l .facts) w v b d c)
+
+module _ (d e : Device) (a : Answered d) (b : Answered e) where
+  -- from runs with the same ledger on
+  same-from : (cs : List Call) (r q : Run) → Going d r → Going e q → r .ledger ≡ q .ledger → heardIn d (r .world) cs ≡ heardIn e (q .world) cs
+  same-from [] r q g h same = refl
+  same-from (c ∷ cs) r q g h same =
+      let w = r .world in
+      let v = q .world in
+      let k = knows-lengths d a r g in
+      let m = knows-lengths e b q h in
+      let number = ap (λ (l : Ledger). discBytes (l .facts .number)) same in
+      let foretold-alike = same-foretold (q .ledger) w v (k .buffer ∙ sym (m .buffer)) (k .disc ∙ number ∙ sym (m .disc)) c in
+      let heard : d .call w c .heard ≡ e .call v c .heard = g .accounted [] .hears c
+      ∙ ap (λ (l : Ledger). foretold l (w .buffer) (w .disc) c) same
+      ∙ foretold-alike
+      ∙ sym (h .accounted [] .hears c) in
+      let noted-alike = ap (λ (l : Ledger). noted l c (d .call w c .heard)) same ∙ ap (noted (q .ledger) c) heard in
+      let more = same-from cs (step d r c) (step e q c) (goes-on d a r g c) (goes-on e b q h c) noted-alike in
+      ap (λ (x : Heard). x ∷ heardIn d (d .call w c .world) cs) heard ∙ ap (λ (xs : List Heard). e .call v c .heard ∷ xs) more
+
+starts-going : (d : Device) → Answered d → Faithful d → (buffer : List ℕ) → length buffer ≡ bufferBytes → Going d (poweredOn d buffer [])
+unfolding discBytes runBytes blockBytes formatOf
+starts-going d a f buffer right =
+    record { ready = rw (a .starts) (record { sound = power-on-sound; buffer = right; disc = refl }); accounted = f .accounted buffer [] }
+
+pub heard-alike : HeardAlike
+heard-alike d e a f b g buffer cs right =
+    same-from d e a b cs (poweredOn d buffer []) (poweredOn e buffer []) (starts-going d a f buffer right) (starts-going e b g buffer right) refl

@@ -1,0 +1,194 @@
+-- What wrong devices obey all the same. Assumes nothing.
+use mathlib.Core.Path.{_≡_, refl, sym, ap, _∙_}
+use mathlib.Core.Bool.{Bool, true, false}
+use mathlib.Core.List.{List, [], _∷_, _++_, flatten}
+use Prim.Native.Nat.{ℕ, suc, _+_}
+use native.Mathlib.Nat.{add-zero}
+use native.Mathlib.Omega.{arith}
+use lib.Dec.{eqb}
+use lib.ListN.{length, take, set, replicate, length-replicate, replicate-append-replicate}
+use lib.Seq.{sets, length-sets}
+use Rattle.state.specs.declared.Transfer.{Transfer}
+use Rattle.state.specs.declared.Transfer.the-variants.{Closed, Answer as AnswerFrom, Read, Write}
+use Rattle.packet.specs.Fields.{addressOf}
+use Rattle.packet.specs.declared.Rule.{Rule}
+use Rattle.drive.specs.World.{World, world}
+use Rattle.state.specs.States.{withTransfer, movedOf}
+use Rattle.drive.specs.Feeds.{takenOf, feedingOf, feedOf}
+use Rattle.drive.specs.Theorems.{Ready, Feed as FeedCall}
+use Rattle.drive.proofs.Houses.{ready-in}
+use Rattle.drive.proofs.Moving.{feed-keeps}
+use Rattle.drive.proofs.Refusing.{feed-refuses}
+use Rattle.drive.proofs.Entering.{feeds as feeds-by}
+use Rattle.demands.specs.Device.{Call, Command, Feed, Pull, Device, callOf, drive}
+use Rattle.demands.specs.Uncut.{Lent, lent, lendAll, CutAnywhere, carried, Part}
+use Rattle.demands.specs.Wrong.{handsOutZeros, discardsFeeds, firstBlockOnly, firstPullOnly, pulledOnce, versionOne, storedAt, versionThree, OnePullEach, Obeyed}
+use Rattle.demands.proofs.Lending.{lendOne, Puts, written, Feeds, ourPuts, our-feeds, Gives, Given, Pulls, fromDisc, fromBuffer, our-pulls}
+use Rattle.demands.proofs.Cutting.{cut-anywhere, feed-way, pull-way}
+use Rattle.demands.proofs.Carrying.{All, Same, reads-cut-by, cuttings, disc-gives}
+
+-- ---- a device that feeds or pulls as ours does
+
+module _ (d : Device) where
+  feeds-as : ((w : World) (x : List ℕ) → d .call w (Feed x) ≡ callOf w (Feed x)) → Feeds d ourPuts
+  feeds-as same =
+      record {
+        none = our-feeds .none;
+        more = our-feeds .more;
+        ready = λ w x r. rw (same w x) (our-feeds .ready w x r);
+        unfed = λ w x e. rw (same w x) (our-feeds .unfed w x e);
+        fed = λ w p x e f. rw (same w x) (our-feeds .fed w p x e f);
+      }
+
+  pulls-as : ((w : World) (x : List ℕ) → d .call w (Pull x) ≡ callOf w (Pull x)) → Pulls d fromDisc fromBuffer
+  pulls-as same =
+      record {
+        read-given = our-pulls .read-given;
+        answer-given = our-pulls .answer-given;
+        ready = λ w x r. rw (same w x) (our-pulls .ready w x r);
+        unpulled = λ w x e. rw (same w x) (our-pulls .unpulled w x e);
+        from-read = λ w p x e. rw (same w x) (our-pulls .from-read w p x e);
+        from-answer = λ w p x e. rw (same w x) (our-pulls .from-answer w p x e);
+      }
+
+-- ---- the device that gives zeros
+
+abbrev gives-zeros : Gives
+gives-zeros at n buffer disc = replicate n 0
+
+zeros-given : Given gives-zeros
+zeros-given =
+    record { none = λ at buffer disc. refl; more = λ at m n buffer disc. sym (replicate-append-replicate m n 0) }
+
+zeroed : Pulls handsOutZeros gives-zeros gives-zeros
+unfolding callOf
+zeroed =
+    record {
+      read-given = zeros-given;
+      answer-given = zeros-given;
+      ready = our-pulls .ready;
+      unpulled = λ w x e. rw e;
+      from-read = λ w p x e. rw e;
+      from-answer = λ w p x e. rw e;
+    }
+
+-- ---- the devices that put the bytes elsewhere
+
+-- nowhere
+abbrev discards : Puts
+discards number at x buffer disc = written buffer disc
+
+-- each to its place on the disc
+abbrev stores : Puts
+stores number at x buffer disc = written buffer (sets disc at x)
+
+sets-more : (x y disc : List ℕ) (at : ℕ) → sets disc at (x ++ y) ≡ sets (sets disc at x) (at + length x) y
+sets-more [] y disc at = rw (add-zero at)
+sets-more (b ∷ x) y disc at =
+    let e : at + suc (length x) ≡ suc at + length x = omega arith in
+    rw e (sets-more x y (set disc at b) (suc at))
+
+module _ (w : World) (x : List ℕ) (r : Ready w) where
+  fed-number : (t : Transfer) → feedingOf t w x .world .state .disc ≡ w .state .disc
+  unfolding movedOf
+  fed-number Closed = refl
+  fed-number (AnswerFrom p) = refl
+  fed-number (Read p) = refl
+  fed-number (Write p) = refl
+
+  -- after a feed that leaves the block buffer, and a disc as long as it was
+  still-ready : (disc : List ℕ) → length disc ≡ length (w .disc) → Ready (world (feedOf w x .world .state) (w .buffer) disc)
+  still-ready disc e =
+      record {
+        sound = feed-keeps w x (r .sound);
+        buffer = r .buffer;
+        disc = rw (feeds-by w r x, fed-number (w .state .transfer)) (e ∙ r .disc);
+      }
+
+  accepted : feedOf w x .house ≡ 0
+  accepted = feed-refuses w x .exactly ∙ ready-in w r
+
+discarded : Feeds discardsFeeds discards
+unfolding callOf takenOf
+discarded =
+    record {
+      none = λ number at buffer disc. refl;
+      more = λ number at x y buffer disc. refl;
+      ready = λ w x r. rw (accepted w x r) (still-ready w x r (w .disc) refl);
+      unfed = λ w x e. rw e;
+      fed = λ w p x e f. rw e;
+    }
+
+stored-none : (t : Transfer) (disc x : List ℕ) → storedAt t disc x 0 ≡ disc
+stored-none Closed disc x = refl
+stored-none (AnswerFrom p) disc x = refl
+stored-none (Read p) disc x = refl
+stored-none (Write p) disc x = refl
+
+stored-length : (t : Transfer) (disc x : List ℕ) (n : ℕ) → length (storedAt t disc x n) ≡ length disc
+stored-length Closed disc x n = refl
+stored-length (AnswerFrom p) disc x n = refl
+stored-length (Read p) disc x n = refl
+stored-length (Write p) disc x n = length-sets disc (p .at .0) (take n x)
+
+stored : Feeds versionThree stores
+unfolding callOf takenOf
+stored =
+    record {
+      none = λ number at buffer disc. refl;
+      more = λ number at x y buffer disc. rw (sets-more x y disc at);
+      ready = λ w x r. rw (accepted w x r) (still-ready w x r _ (stored-length (w .state .transfer) (w .disc) x (feedOf w x .count)));
+      unfed = λ w x e. rw (e, stored-none (w .state .transfer) (w .disc) x);
+      fed = λ w p x e f. rw (e, f);
+    }
+
+-- ---- the device that serves only the first pull
+
+-- a pull that closes the transfer is ours
+closing-pull : (w : World) (x : List ℕ) → callOf w (Pull x) .world .state .transfer ≡ Closed
+    → lendOne firstPullOnly Pull w x ≡ lendOne drive Pull w x
+closing-pull w x closed = here (eqb (callOf w (Pull x) .heard .house) 0) refl
+  where
+    here : (b : Bool) → eqb (callOf w (Pull x) .heard .house) 0 ≡ b → lendOne firstPullOnly Pull w x ≡ lendOne drive Pull w x
+    here false q = rw q
+    here true q =
+        let a = callOf w (Pull x) in
+        let v = a .world in
+        let left : Transfer → Lent = λ t. lent (a .heard .count) (a .heard .out) (world (withTransfer (v .state) (v .state .sense) t) (v .buffer) (v .disc)) in
+        rw q (ap left (ap pulledOnce closed ∙ sym closed))
+
+one-pull : Same Pull drive firstPullOnly (λ pieces. length pieces ≡ 1)
+one-pull w q [] one closed = absurd (omega arith)
+one-pull w q (x ∷ (y ∷ ys)) one closed = absurd (omega arith)
+one-pull w q (x ∷ []) one closed =
+    let v = callOf w (Command q) in
+    ap (λ (l : Lent). carried (v .heard .passed) (take (l .count + 0) (l .out ++ [])) (l .world)) (closing-pull (v .world) x closed)
+
+one-each : (parts : List Part) → OnePullEach parts → All (λ pieces. length pieces ≡ 1) parts
+one-each [] e = tt
+one-each (x ∷ xs) e = (e .0, one-each xs (e .1))
+
+pub obeyed : Obeyed
+obeyed =
+    record {
+      hands-out-zeros = cuttings (feeds-as handsOutZeros (λ w x. refl)) zeroed (λ at n buffer disc h. length-replicate n 0) (λ w q. refl);
+      discards-feeds = cuttings discarded (pulls-as discardsFeeds (λ w x. refl)) disc-gives (λ w q. refl);
+      version-one = cuttings (feeds-as versionOne (λ w x. refl)) (pulls-as versionOne (λ w x. refl)) disc-gives (λ w q. refl);
+      version-three = cuttings stored (pulls-as versionThree (λ w x. refl)) disc-gives (λ w q. refl);
+      first-block-feeds = cut-anywhere (feed-way (feeds-as firstBlockOnly (λ w x. refl)));
+      first-block-pulls = cut-anywhere (pull-way (pulls-as firstBlockOnly (λ w x. refl)));
+      first-pull-reads = λ w p rule out parts c each.
+          reads-cut-by our-pulls disc-gives (λ w q. refl) firstPullOnly (λ pieces. length pieces ≡ 1) one-pull w p rule (out ∷ []) parts
+          (record {
+            ready = c .ready;
+            code = c .code;
+            known = c .known;
+            passes = c .passes;
+            some = c .some;
+            through = c .through;
+            sum = c .sum;
+            all = c .all;
+          })
+          refl
+          (one-each parts each);
+    }

@@ -1,0 +1,201 @@
+-- Runs over any block buffer and any disc 4: the disc goes in, both attentions are told, and a READ or a WRITE passes. Assumes nothing.
+use mathlib.Core.Path.{_≡_, refl, sym, ap, subst, _∙_}
+use mathlib.Core.Bool.{Bool, true, false}
+use mathlib.Core.List.{List, [], _∷_, _++_, flatten}
+use Prim.Native.Nat.{ℕ, min}
+use borrow.Author.Tests.{eqb-false}
+use lib.Dec.{eqb}
+use lib.ListN.{length, take, drop}
+use Rattle.disc.specs.Formats.{bufferBytes, formatOf, blockBytes, runBytes, discBytes, placeOf}
+use Rattle.disc.specs.Masks.{masks, maskRow}
+use Rattle.state.specs.declared.Sense.{Sense}
+use Rattle.state.specs.declared.Transfer.{Transfer}
+use Rattle.state.specs.declared.Transfer.the-variants.{Closed, Read, Write}
+use Rattle.state.specs.Senses.{triple, noSense, namedB}
+use Rattle.state.specs.States.{stateOf, powerOn, insertedOf, failedOf, passedOf, movedOf}
+use Rattle.state.specs.Sound.{onDiscB, endsOnBlockB, openSoundB, soundB}
+use Rattle.packet.specs.Fields.{addressOf, lengthOf}
+use Rattle.packet.specs.Rules.{rules, ruleOf}
+use Rattle.packet.specs.Checks.{inMaskB, checksOf, verdict}
+use Rattle.answer.specs.Answers.{inquiryData}
+use Rattle.answer.specs.Giving.{answerOf, allocationOf, giveOf}
+use Rattle.drive.specs.World.{World, world}
+use Rattle.drive.specs.House.{lentTests, commandTests, insertTests}
+use Rattle.drive.specs.Events.{insertOf}
+use Rattle.drive.specs.Commands.{spanOf, performedOf, commandOf}
+use Rattle.drive.specs.Feeds.{feedingOf, feedOf}
+use Rattle.drive.specs.Pulls.{pullOf}
+use Rattle.drive.specs.Cases.{lengthAt7, bytes2And4}
+use Rattle.demands.specs.Device.{Call, Insert, Command, Feed, Pull, Heard, Reply, reply, Device, moves, callOf}
+use Rattle.demands.specs.Answered.{houseOf, judgedOf}
+use Rattle.demands.specs.Ledger.{Ledger, facts, store, ledger, blocksOf, known, noted}
+use Rattle.demands.specs.Faithful.{Run, run, poweredOn, Accounted, Faithful, foretells, foretold}
+
+-- what is foretold of a call that is accepted
+pub foretold-accepted : (l : Ledger) (buffer disc : List ℕ) (c : Call) (h : Heard) → h ≡ foretold l buffer disc c → h .house ≡ 0 → h ≡ foretells l c
+unfolding foretold
+foretold-accepted l buffer disc c h e none = here (eqb house 0) refl
+  where
+    house : ℕ
+    house = houseOf (world (known (l .facts)) buffer disc) c
+
+    here : (b : Bool) → eqb house 0 ≡ b → h ≡ foretells l c
+    here true q = rw q at e
+    here false q = absurd (eqb-false house 0 q (sym (ap (λ (x : Heard). x .house) (rw q at e)) ∙ none))
+
+-- the counts and bytes of an accepted feed and pull
+module _ {d : Device} {r : Run} (a : Accounted d r) where
+  pub takes : (piece : List ℕ)
+      → let h = d .call (r .world) (Feed piece) .heard in
+      h .house ≡ 0 → h .count ≡ min (length piece) (r .ledger .left)
+  takes piece none = ap (λ (h : Heard). h .count) (foretold-accepted (r .ledger) (r .world .buffer) (r .world .disc) (Feed piece) _ (a .hears (Feed piece)) none)
+
+  pub gives : (out : List ℕ)
+      → let h = d .call (r .world) (Pull out) .heard in
+      let coming = r .ledger .coming in
+      h .house ≡ 0 → (h .count ≡ min (length out) (length coming)) × (h .out ≡ take (h .count) coming ++ drop (h .count) out)
+  gives out none =
+      let e = foretold-accepted (r .ledger) (r .world .buffer) (r .world .disc) (Pull out) _ (a .hears (Pull out)) none in
+      let count = ap (λ (h : Heard). h .count) e in
+      (count, rw count (ap (λ (h : Heard). h .out) e))
+
+-- TEST UNIT READY, INQUIRY of no bytes, READ of the first block, WRITE of the first two
+abbrev pub test : List ℕ
+test = bytes2And4 0x00 0 0
+
+abbrev pub inquiry : List ℕ
+inquiry = bytes2And4 0x12 0 0
+
+abbrev read : List ℕ
+read = lengthAt7 0x28 0 1
+
+abbrev write : List ℕ
+write = lengthAt7 0x2a 0 2
+
+abbrev reading : ℕ → ℕ → Transfer
+reading at left = Read (record { at = record { 0 = at }; left = left })
+
+abbrev writing : ℕ → Transfer
+writing left = Write (record { at = record { 0 = 0 }; left = left })
+
+-- the answers to a command and to an event
+abbrev passes : World → Reply
+passes w = reply 0 true 0 [] w
+
+abbrev fails : World → Reply
+fails w = reply 0 false 0 [] w
+
+abbrev happened : World → Reply
+happened w = reply 0 false 0 [] w
+
+module _ (buffer disc : List ℕ) where
+  -- disc 4 is in, unprotected, with the motor off
+  abbrev with4 : Bool → Bool → Sense → Transfer → World
+  with4 power change sense t = world (stateOf 4 false false power change sense t) buffer disc
+
+  -- before and after the insertion; after power-on, and after the change too is told; after a command that passed
+  abbrev pub empty : World
+  empty = world powerOn buffer []
+
+  abbrev pub inserted : Bool → World
+  inserted change = with4 true change noSense Closed
+
+  abbrev pub power-told : Bool → World
+  power-told change = with4 false change (triple 0x06 0x29 0x00) Closed
+
+  -- as if neither had been told
+  abbrev pub untold : World
+  untold = with4 true true (triple 0x06 0x29 0x00) Closed
+
+  abbrev told : World
+  told = with4 false false (triple 0x06 0x28 0x00) Closed
+
+  abbrev obeyed : Transfer → World
+  obeyed t = with4 false false noSense t
+
+  -- how the runs start
+  pub record Starts (call : World → Call → Reply) : Type 0 where
+    pub inserts : call empty (Insert 4 false disc) ≡ happened (inserted true)
+    pub tells-power : (change : Bool) → call (inserted change) (Command test) ≡ fails (power-told change)
+    pub tells-change : call (power-told true) (Command test) ≡ fails told
+
+  -- ours do, and what may follow
+  pub record Ours : Type 0 where
+    pub starts : Starts callOf
+    pub inquires : callOf (inserted true) (Command inquiry) ≡ passes (inserted true)
+    pub inquiry-passes : judgedOf (verdict (inserted true .state) inquiry) .passed ≡ true
+    pub test-fails : judgedOf (verdict (inserted true .state) test) .passed ≡ false
+    -- the attention that was told, told again; and what is to be told then
+    pub tells-again : callOf untold (Command test) ≡ fails (power-told true)
+    pub change-next : judgedOf (verdict (known (facts 4 false false true (triple 0x06 0x29 0x00))) test) .sense ≡ triple 0x06 0x28 0x00
+    pub tests : callOf (power-told false) (Command test) ≡ passes (obeyed Closed)
+    pub reads : callOf told (Command read) ≡ passes (obeyed (reading 0 512))
+    pub writes : callOf told (Command write) ≡ passes (obeyed (writing 1024))
+    -- pulls of one byte: from the READ, and with nothing open
+    pub pulls : callOf (obeyed (reading 0 512)) (Pull (0 ∷ [])) ≡ reply 0 false 1 (take 1 disc ++ []) (obeyed (reading 1 511))
+    pub pulls-none : callOf (obeyed Closed) (Pull (0 ∷ [])) ≡ reply 0 false 0 (0 ∷ []) (obeyed Closed)
+    pub pulls-empty : callOf empty (Pull (0 ∷ [])) ≡ reply 0 false 0 (0 ∷ []) empty
+    -- feeds of the WRITE, and of one that takes a block only
+    pub feeds : (piece : List ℕ) → callOf (obeyed (writing 1024)) (Feed piece) ≡ moves (feedingOf (writing 1024) (obeyed (writing 1024)) piece) piece
+    pub feeds-one : (piece : List ℕ) → callOf (obeyed (writing 512)) (Feed piece) ≡ moves (feedingOf (writing 512) (obeyed (writing 512)) piece) piece
+
+  -- by computation, over any bytes
+  pub ours : length buffer ≡ bufferBytes → length disc ≡ 32768 → Ours
+  unfolding callOf formatOf blockBytes runBytes discBytes placeOf masks maskRow namedB insertedOf failedOf passedOf onDiscB endsOnBlockB openSoundB soundB addressOf lengthOf rules ruleOf inMaskB checksOf verdict inquiryData answerOf allocationOf giveOf lentTests commandTests insertTests insertOf spanOf performedOf commandOf movedOf feedOf pullOf
+  ours b d =
+      record {
+        starts = record { inserts = rw d; tells-power = λ change. rw (b, d); tells-change = rw (b, d) };
+        inquires = rw (b, d);
+        inquiry-passes = refl;
+        test-fails = refl;
+        tells-again = rw (b, d);
+        change-next = refl;
+        tests = rw (b, d);
+        reads = rw (b, d);
+        writes = rw (b, d);
+        pulls = rw (b, d);
+        pulls-none = rw (b, d);
+        pulls-empty = rw b;
+        feeds = λ piece. rw (b, d);
+        feeds-one = λ piece. rw (b, d);
+      }
+
+  -- ---- the accounts of such runs
+
+  -- the ledger: the disc's blocks as they came in, what a WRITE takes and what is coming
+  abbrev blocks : List (List ℕ)
+  blocks = blocksOf 512 64 disc
+
+  abbrev kept : Sense → ℕ → List ℕ → Ledger
+  kept sense left coming = ledger (facts 4 false false false sense) (store blocks 0 []) left coming
+
+  abbrev with-told : Run
+  with-told = record { world = told; ledger = kept (triple 0x06 0x28 0x00) 0 [] }
+
+  module _ (call : World → Call → Reply) (s : Starts call) where
+    abbrev device : Device
+    device = record { start = powerOn; call = call }
+
+    -- the disc goes in, and both attentions are told
+    run-told : run device (poweredOn device buffer []) (Insert 4 false disc ∷ Command test ∷ Command test ∷ []) ≡ with-told
+    unfolding noted formatOf blockBytes
+    run-told = rw (s .inserts, s .tells-power true, s .tells-change)
+
+    module _ (f : Faithful device) where
+      -- any calls from there on are accounted for
+      from-told : (cs : List Call) → Accounted device (run device with-told cs)
+      from-told cs =
+          subst (λ (r : Run). Accounted device (run device r cs)) run-told
+          (f .accounted buffer [] (Insert 4 false disc ∷ Command test ∷ Command test ∷ cs))
+
+      -- the READ is to give the first block
+      pub from-reading : (cs : List Call) → call told (Command read) ≡ passes (obeyed (reading 0 512))
+          → Accounted device (run device (record { world = obeyed (reading 0 512); ledger = kept noSense 0 (flatten (take 1 blocks)) }) cs)
+      unfolding noted rules ruleOf addressOf lengthOf
+      from-reading cs e = rw e at (from-told (Command read ∷ cs))
+
+      -- the WRITE is to take two blocks, however many the device takes
+      pub from-writing : (left : ℕ) (cs : List Call) → call told (Command write) ≡ passes (obeyed (writing left))
+          → Accounted device (run device (record { world = obeyed (writing left); ledger = kept noSense 1024 [] }) cs)
+      unfolding noted rules ruleOf addressOf lengthOf formatOf blockBytes runBytes
+      from-writing left cs e = rw e at (from-told (Command write ∷ cs))

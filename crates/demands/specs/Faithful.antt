@@ -1,0 +1,97 @@
+-- Demand 2: "Each command passes or fails by UFI revision 1.0 as narrowed in paper 01, with the triple of the first check that fails.
+-- While only our calls touch the disc, each block read holds the bytes last stored whole since insertion, else those it came in with.
+-- After an accepted insertion, while power stays on, only INQUIRY and REQUEST SENSE pass until some command has answered 06 28 00."
+use mathlib.Core.Path.{_≡_}
+use mathlib.Core.Bool.{Bool, true, false, cond, not, _&&_, _||_}
+use mathlib.Core.List.{List, [], _∷_, _++_, flatten}
+use Prim.Native.Nat.{ℕ, min}
+use lib.Dec.{eqb}
+use lib.ListN.{length, take, drop}
+use Rattle.state.specs.Senses.{triple, sameB}
+use Rattle.packet.specs.Fields.{byteAt}
+use Rattle.packet.specs.Checks.{verdict}
+use Rattle.drive.specs.World.{World, world}
+use Rattle.demands.specs.Device.{Call, Insert, Eject, Command, Feed, Pull, Heard, heard, Device, after}
+use Rattle.demands.specs.Answered.{houseOf, lentFor, judgedOf}
+use Rattle.demands.specs.Ledger.{Ledger, blank, known, noted}
+
+-- ---- "each block read holds the bytes last stored whole since insertion, else those it came in with"
+
+-- the world and the ledger side by side; the ledger sees the call and what was heard
+pub record Run : Type 0 where
+  pub world : World
+  pub ledger : Ledger
+
+abbrev pub step : Device → Run → Call → Run
+step d r c =
+    let a = d .call (r .world) c in
+    record { world = a .world; ledger = noted (r .ledger) c (a .heard) }
+
+-- any calls, whatever is answered; a call with a wrong state, block buffer or disc may stand anywhere in it, since it changes nothing
+-- (`Answered.refused`)
+abbrev pub run : Device → Run → List Call → Run
+run d r [] = r
+run d r (c ∷ cs) = run d (step d r c) cs
+
+-- power-on, with any block buffer and any disc lent
+abbrev pub poweredOn : Device → List ℕ → List ℕ → Run
+poweredOn d buffer disc = record { world = world (d .start) buffer disc; ledger = blank }
+
+-- whether a transfer is open
+abbrev pub openB : Ledger → Bool
+openB l = not (eqb (l .left) 0) || not (eqb (length (l .coming)) 0)
+
+-- what is heard of an accepted call: by the checks A to H; "A feed takes the first min(piece, left) bytes"; "A pull fills the first
+-- min(buffer, left) bytes of the lent buffer, leaves its tail .. and reports that count."
+abbrev pub foretells : Ledger → Call → Heard
+foretells l (Insert number prot disc) = heard 0 false (l .facts .sense) 0 []
+foretells l Eject = heard 0 false (cond (openB l) (triple 0x02 0x3a 0x00) (l .facts .sense)) 0 []
+foretells l (Command p) =
+    let j = judgedOf (verdict (known (l .facts)) p) in
+    heard 0 (j .passed) (j .sense) 0 []
+foretells l (Feed piece) = heard 0 false (l .facts .sense) (min (length piece) (l .left)) piece
+foretells l (Pull out) =
+    let n = min (length out) (length (l .coming)) in
+    heard 0 false (l .facts .sense) n (take n (l .coming) ++ drop n out)
+
+-- and of any, by the house tests, with a block buffer and a disc that are lent
+unfoldable pub foretold : Ledger → List ℕ → List ℕ → Call → Heard
+foretold l buffer disc c =
+    let house = houseOf (world (known (l .facts)) buffer disc) c in
+    cond (eqb house 0) (foretells l c) (heard house false (l .facts .sense) 0 (lentFor c))
+
+-- what the ledger says, whatever is called next
+pub record Accounted (d : Device) (r : Run) : Type 0 where
+  -- what is heard is what it foretells: house number, passed or failed, triple, count and bytes
+  pub hears : (c : Call) → d .call (r .world) c .heard ≡ foretold (r .ledger) (r .world .buffer) (r .world .disc) c
+  -- while a disc is in, it holds the ledger's blocks
+  pub holds : (r .ledger .facts .number ≡ 0 → ⊥) → r .world .disc ≡ flatten (r .ledger .stored .blocks)
+
+-- ---- "until some command has answered 06 28 00"
+
+abbrev pub answersB : Call → Heard → Bool
+answersB (Insert number prot disc) h = false
+answersB Eject h = false
+answersB (Command p) h = eqb (h .house) 0 && not (h .passed) && sameB (h .sense) (triple 0x06 0x28 0x00)
+answersB (Feed piece) h = false
+answersB (Pull out) h = false
+
+abbrev pub someAnswersB : Device → World → List Call → Bool
+someAnswersB d w [] = false
+someAnswersB d w (c ∷ cs) = answersB c (d .call w c .heard) || someAnswersB d (d .call w c .world) cs
+
+pub record Faithful (d : Device) : Type 0 where
+  -- "Each command passes or fails .., with the triple of the first check that fails."
+  pub judged : (w : World) (p : List ℕ)
+      → let h = d .call w (Command p) .heard in
+      h .house ≡ 0 → record { passed = h .passed; sense = h .sense } ≡ judgedOf (verdict (w .state) p)
+  -- "While only our calls touch the disc": in every run from power-on
+  pub accounted : (buffer disc : List ℕ) (cs : List Call) → Accounted d (run d (poweredOn d buffer disc) cs)
+  -- "After an accepted insertion, .. only INQUIRY and REQUEST SENSE pass until some command has answered 06 28 00.": in every world, after any
+  -- calls, further events among them
+  pub announced : (w : World) (number : ℕ) (prot : Bool) (disc : List ℕ) (cs : List Call) (p : List ℕ)
+      → let inserted = d .call w (Insert number prot disc) in
+      inserted .heard .house ≡ 0
+      → someAnswersB d (inserted .world) cs ≡ false
+      → d .call (after d (inserted .world) cs) (Command p) .heard .passed ≡ true
+      → (eqb (byteAt p 0) 0x03 || eqb (byteAt p 0) 0x12) ≡ true

@@ -1,0 +1,7 @@
+pub mod Device
+pub mod Answered
+pub mod Ledger
+pub mod Faithful
+pub mod Uncut
+pub mod Demands
+pub mod Wrong

@@ -1,0 +1,187 @@
+-- Devices that break a demand, each ours but for one thing; proofs/Wrong refutes them.
+use mathlib.Core.Path.{_≡_}
+use mathlib.Core.Bool.{Bool, true, false, cond, _&&_}
+use mathlib.Core.List.{List, [], _∷_, _++_}
+use Prim.Native.Nat.{ℕ, min}
+use lib.Dec.{eqb}
+use lib.ListN.{length, take, drop, replicate}
+use lib.Seq.{sets}
+use Rattle.disc.specs.Formats.{blockBytes}
+use Rattle.state.specs.declared.Fault.the-variants.{UnknownCode}
+use Rattle.state.specs.declared.Failure.the-variants.{Found}
+use Rattle.state.specs.declared.DiscAt.{DiscAt}
+use Rattle.state.specs.declared.Transfer.{Transfer}
+use Rattle.state.specs.declared.Transfer.the-variants.{Closed, Answer as AnswerFrom, Read, Write}
+use Rattle.state.specs.States.{stateOf, powerOn, withTransfer, failedOf, passedOf}
+use Rattle.packet.specs.Fields.{byteAt, addressOf}
+use Rattle.drive.specs.World.{World, world}
+use Rattle.packet.specs.declared.Rule.{Rule}
+use Rattle.packet.specs.declared.Routine.the-variants.{Read as Reads}
+use Rattle.demands.specs.Device.{Call, Insert, Eject, Command, Feed, Pull, Reply, reply, Device, callOf}
+use Rattle.demands.specs.Faithful.{Faithful}
+use Rattle.demands.specs.Uncut.{CutAnywhere, Cuttings, READ, Part, Cut, carry, carryAll}
+
+-- what is made of our answer to an insertion, and to a command, a feed and a pull with the packet, piece or buffer
+abbrev Events : Type 0
+Events = World → Reply → Reply
+
+abbrev Calls : Type 0
+Calls = World → List ℕ → Reply → Reply
+
+abbrev pub altered : Events → Calls → Calls → Calls → World → Call → Reply
+altered inserts commands feeds pulls w (Insert number prot disc) = inserts w (callOf w (Insert number prot disc))
+altered inserts commands feeds pulls w Eject = callOf w Eject
+altered inserts commands feeds pulls w (Command p) = commands w p (callOf w (Command p))
+altered inserts commands feeds pulls w (Feed piece) = feeds w piece (callOf w (Feed piece))
+altered inserts commands feeds pulls w (Pull out) = pulls w out (callOf w (Pull out))
+
+abbrev sameEvents : Events
+sameEvents w a = a
+
+abbrev same : Calls
+same w lent a = a
+
+abbrev inserting : Events → Device
+inserting f = record { start = powerOn; call = altered f same same same }
+
+abbrev commanding : Calls → Device
+commanding f = record { start = powerOn; call = altered sameEvents f same same }
+
+abbrev feeding : Calls → Device
+feeding f = record { start = powerOn; call = altered sameEvents same f same }
+
+abbrev pulling : Calls → Device
+pulling f = record { start = powerOn; call = altered sameEvents same same f }
+
+-- a refusal stays as it is; an accepted call leaves another world
+abbrev unlessRefused : Reply → Reply → Reply
+unlessRefused a b = cond (eqb (a .heard .house) 0) b a
+
+abbrev leaving : Reply → World → Reply
+leaving a w = unlessRefused a (reply 0 (a .heard .passed) (a .heard .count) (a .heard .out) w)
+
+-- ---- "A device that fails everything, one that passes everything, one that hands out zeros always, and one that discards feeds"
+
+abbrev pub failsEverything : Device
+failsEverything =
+    commanding (λ w p a. unlessRefused a (reply 0 false 0 [] (world (failedOf (w .state) (Found UnknownCode)) (w .buffer) (w .disc))))
+
+abbrev pub passesEverything : Device
+passesEverything =
+    commanding (λ w p a.
+    cond (a .heard .passed) a (unlessRefused a (reply 0 true 0 [] (world (passedOf (w .state) (w .state .motor) Closed) (w .buffer) (w .disc)))))
+
+abbrev pub handsOutZeros : Device
+handsOutZeros =
+    pulling (λ w out a.
+    let n = a .heard .count in
+    reply (a .heard .house) false n (replicate n 0 ++ drop n out) (a .world))
+
+-- it counts and goes on as ours, and stores nothing
+abbrev pub discardsFeeds : Device
+discardsFeeds = feeding (λ w piece a. leaving a (world (a .world .state) (w .buffer) (w .disc)))
+
+-- ---- "One that serves only the first block or first pull of a transfer"
+
+abbrev firstOf : ℕ → DiscAt → DiscAt
+firstOf n p = record { at = p .at; left = min n (p .left) }
+
+abbrev shortened : ℕ → Transfer → Transfer
+shortened n Closed = Closed
+shortened n (AnswerFrom p) = AnswerFrom p
+shortened n (Read p) = Read (firstOf n p)
+shortened n (Write p) = Write (firstOf n p)
+
+abbrev with : World → Transfer → World
+with w t = world (withTransfer (w .state) (w .state .sense) t) (w .buffer) (w .disc)
+
+abbrev pub firstBlockOnly : Device
+firstBlockOnly =
+    commanding (λ w p a. leaving a (with (a .world) (shortened (blockBytes (w .state .disc)) (a .world .state .transfer))))
+
+-- what is pulled from once is closed
+abbrev pub pulledOnce : Transfer → Transfer
+pulledOnce Closed = Closed
+pulledOnce (AnswerFrom p) = Closed
+pulledOnce (Read p) = Closed
+pulledOnce (Write p) = Write p
+
+abbrev pub firstPullOnly : Device
+firstPullOnly = pulling (λ w out a. leaving a (with (a .world) (pulledOnce (a .world .state .transfer))))
+
+-- ---- "A made-up count": the length of what was lent
+
+abbrev counted : Calls
+counted w lent a = unlessRefused a (reply 0 false (length lent) (a .heard .out) (a .world))
+
+abbrev pub makesUpCounts : Device
+makesUpCounts = record { start = powerOn; call = altered sameEvents same counted counted }
+
+-- ---- "that one flag is cleared": the attentions stay pending for ever
+
+abbrev withFlags : Bool → Bool → World → World
+withFlags power change w =
+    let s = w .state in
+    world (stateOf (s .disc) (s .protected) (s .motor) power change (s .sense) (s .transfer)) (w .buffer) (w .disc)
+
+abbrev pub neverReady : Device
+neverReady = commanding (λ w p a. leaving a (withFlags (w .state .«power_on») (w .state .change) (a .world)))
+
+-- ---- the first three versions of the box
+
+abbrev withChange : Bool → World → World
+withChange change w = withFlags (w .state .«power_on») change w
+
+-- version one swaps silently: the change flag stays as it was
+abbrev pub versionOne : Device
+versionOne = inserting (λ w a. leaving a (withChange (w .state .change) (a .world)))
+
+-- version two: an INQUIRY that passes uses the announcement up
+abbrev pub versionTwo : Device
+versionTwo = commanding (λ w p a. cond (a .heard .passed && eqb (byteAt p 0) 0x12) (leaving a (withChange false (a .world))) a)
+
+-- version three stores byte by byte
+abbrev pub storedAt : Transfer → List ℕ → List ℕ → ℕ → List ℕ
+storedAt Closed disc piece n = disc
+storedAt (AnswerFrom p) disc piece n = disc
+storedAt (Read p) disc piece n = disc
+storedAt (Write p) disc piece n = sets disc (p .at .0) (take n piece)
+
+abbrev pub versionThree : Device
+versionThree =
+    feeding (λ w piece a. leaving a (world (a .world .state) (w .buffer) (storedAt (w .state .transfer) (w .disc) piece (a .heard .count))))
+
+-- ---- each breaks demand 2, and demand 3 with it
+
+pub record Excluded : Type 0 where
+  pub fails-everything : Faithful failsEverything → ⊥
+  pub passes-everything : Faithful passesEverything → ⊥
+  pub hands-out-zeros : Faithful handsOutZeros → ⊥
+  pub discards-feeds : Faithful discardsFeeds → ⊥
+  pub first-block-only : Faithful firstBlockOnly → ⊥
+  pub first-pull-only : Faithful firstPullOnly → ⊥
+  pub makes-up-counts : Faithful makesUpCounts → ⊥
+  pub never-ready : Faithful neverReady → ⊥
+  pub version-one : Faithful versionOne → ⊥
+  pub version-two : Faithful versionTwo → ⊥
+  pub version-three : Faithful versionThree → ⊥
+
+-- ---- some "obey some cuttings"
+
+abbrev pub OnePullEach : List Part → Type 0
+OnePullEach [] = Unit
+OnePullEach (x ∷ xs) = (length (x .pieces) ≡ 1) × OnePullEach xs
+
+pub record Obeyed : Type 0 where
+  -- every cutting, so that demand 3 would say nothing without demand 2
+  pub hands-out-zeros : Cuttings handsOutZeros
+  pub discards-feeds : Cuttings discardsFeeds
+  pub version-one : Cuttings versionOne
+  pub version-three : Cuttings versionThree
+  -- data cut anywhere
+  pub first-block-feeds : CutAnywhere firstBlockOnly Feed
+  pub first-block-pulls : CutAnywhere firstBlockOnly Pull
+  -- a READ cut into READs, each carried through by one pull
+  pub first-pull-reads : (w : World) (p : List ℕ) (rule : Rule) (out : List ℕ) (parts : List Part)
+      → Cut READ firstPullOnly w p rule (out ∷ []) parts → OnePullEach parts
+      → carryAll firstPullOnly Pull w (rule .length) p (addressOf p .0) parts ≡ carry firstPullOnly Pull w p (out ∷ [])
