@@ -218,25 +218,24 @@ fills-more {gives} g at m x y buffer disc =
 
 -- serves both
 module _ {d : Device} {reads answers : Gives} (p : Pulls d reads answers) where
-  pub read-served : Serves d Pull (reading reads)
-  read-served =
+  pull-served : (transfer : ℕ → ℕ → Transfer) (gives : Gives) → Given gives → ((at left : ℕ) → leftOf (transfer at left) ≡ left)
+      → ((w : World) (at left : ℕ) (x : List ℕ) → pullOf w x ≡ pullingOf (transfer at left) w x
+      → lendOne d Pull w x ≡ moving (pulling transfer gives) w at left x)
+      → Serves d Pull (pulling transfer gives)
+  pull-served transfer gives g left opened =
       record {
-        left = λ at left. refl;
-        none = λ number at x buffer disc. rw (p .read-given .none at buffer disc);
-        more = λ number at m x y buffer disc. rw (fills-more (p .read-given) at m x y buffer disc);
+        left = left;
+        none = λ number at x buffer disc. rw (g .none at buffer disc);
+        more = λ number at m x y buffer disc. rw (fills-more g at m x y buffer disc);
         closed = λ w x r e. p .unpulled w x (pulls w r x ∙ rw e);
-        opened = λ w at left x r e. p .from-read w _ x (pulls w r x ∙ rw e);
+        opened = λ w at left x r e. opened w at left x (pulls w r x ∙ rw e);
       }
 
+  pub read-served : Serves d Pull (reading reads)
+  read-served = pull-served (reading reads .transfer) reads (p .read-given) (λ at left. refl) (λ w at left. p .from-read w _)
+
   pub answer-served : Serves d Pull (answering answers)
-  answer-served =
-      record {
-        left = λ at left. refl;
-        none = λ number at x buffer disc. rw (p .answer-given .none at buffer disc);
-        more = λ number at m x y buffer disc. rw (fills-more (p .answer-given) at m x y buffer disc);
-        closed = λ w x r e. p .unpulled w x (pulls w r x ∙ rw e);
-        opened = λ w at left x r e. p .from-answer w _ x (pulls w r x ∙ rw e);
-      }
+  answer-served = pull-served (answering answers .transfer) answers (p .answer-given) (λ at left. refl) (λ w at left. p .from-answer w _)
 
 -- ours: from the disc and from the block buffer
 abbrev pub fromDisc : Gives

@@ -96,7 +96,7 @@ abbrev pub passes : Known → Ledger → Facts → List ℕ → Ledger
 passes Unknown l f p = ledger f (l .stored) 0 []
 passes (Base rule) l f p = opened (rule .routine) l f p (lengthOf (rule .length) p)
 
--- an accepted call; a command closes whatever was open
+-- an accepted call; an insertion leaves an open answer, an ejection and a command close whatever was open
 abbrev pub accepts : Ledger → Call → Heard → Ledger
 accepts l (Insert number prot disc) h =
     ledger (facts number prot (l .facts .power) true (h .sense)) (store (blocksOf (blockBytes number) (formatOf number .blocks) disc) 0 []) (l .left)
