@@ -16,6 +16,8 @@ use Rattle.demands.specs.Device.{Call, Insert, Eject, Command, Feed, Pul
 use Rattle.demands.specs.Answered.{houseOf, Answered}
 use Rattle.demands.specs.Ledger.{Ledger, Facts, known, noted}
 use Rattle.demands.specs.Faithful.{Run, step, run, poweredOn, Accounted, Faithful, foretold}
+use Rattle.demands.proofs.Calls.{same-house}
+use Rattle.demands.proofs.Foretelling.{foretold-house}
 use Rattle.demands.specs.Demands.{heardIn, HeardAlike}
 
 -- a run of a device so far: the world is ready, and whatever follows is accounted for
@@ -26,40 +28,21 @@ record Going (d : Device) (r : Run) : Type 0 where
 goes-on : (d : Device) → Answered d → (r : Run) → Going d r → (c : Call) → Going d (step d r c)
 goes-on d a r g c = record { ready = a .stays (r .world) c (g .ready); accounted = λ cs. g .accounted (c ∷ cs) }
 
-foretold-house : (l : Ledger) (w : World)
-    → foretold l (w .buffer) (w .disc) (Feed []) .house ≡ houseOf (world (known (l .facts)) (w .buffer) (w .disc)) (Feed [])
-unfolding foretold
-foretold-house l w = here (eqb house 0) refl
-  where
-    house : ℕ
-    house = houseOf (world (known (l .facts)) (w .buffer) (w .disc)) (Feed [])
-
-    here : (b : Bool) → eqb house 0 ≡ b → foretold l (w .buffer) (w .disc) (Feed []) .house ≡ house
-    here true q = rw q (sym (eqb-true house 0 q))
-    here false q = rw q
-
 -- the lengths that are lent are those that the ledger knows of
 knows-lengths : (d : Device) → Answered d → (r : Run) → Going d r → Ready (world (known (r .ledger .facts)) (r .world .buffer) (r .world .disc))
 knows-lengths d a r g =
     let w = r .world in
     let heard = ap (λ (h : Heard). h .house) (g .accounted [] .hears (Feed [])) in
     admits (world (known (r .ledger .facts)) (w .buffer) (w .disc)) .0
-    (sym (heard ∙ foretold-house (r .ledger) w) ∙ a .numbered w (Feed []) ∙ admits w .1 (g .ready))
+    (sym (heard ∙ foretold-house (r .ledger) (w .buffer) (w .disc) (Feed [])) ∙ a .numbered w (Feed []) ∙ admits w .1 (g .ready))
 
--- and the house tests ask for no more
-same-house : (f : Facts) (w v : World) → length (w .buffer) ≡ length (v .buffer) → length (w .disc) ≡ length (v .disc) → (c : Call)
-    → houseOf (world (known f) (w .buffer) (w .disc)) c ≡ houseOf (world (known f) (v .buffer) (v .disc)) c
-unfolding lentTests commandTests
-same-house f w v b d (Insert number prot disc) = refl
-same-house f w v b d Eject = refl
-same-house f w v b d (Command p) = rw (b, d)
-same-house f w v b d (Feed piece) = rw (b, d)
-same-house f w v b d (Pull out) = rw (b, d)
-
+-- and no more of them is asked
 same-foretold : (l : Ledger) (w v : World) → length (w .buffer) ≡ length (v .buffer) → length (w .disc) ≡ length (v .disc) → (c : Call)
     → foretold l (w .buffer) (w .disc) c ≡ foretold l (v .buffer) (v .disc) c
 unfolding foretold
-same-foretold l w v b d c = rw (same-house (l .facts) w v b d c)
+same-foretold l w v b d c =
+    let k = known (l .facts) in
+    rw (same-house (world k (w .buffer) (w .disc)) (world k (v .buffer) (v .disc)) refl refl b d c)
 
 module _ (d e : Device) (a : Answered d) (b : Answered e) where
   -- from runs with the same ledger on

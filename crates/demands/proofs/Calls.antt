@@ -5,9 +5,12 @@ use mathlib.Core.List.{List, []}
 use Prim.Native.Nat.{ℕ}
 use borrow.Author.Tests.{eqb-true, eqb-false}
 use lib.Dec.{eqb}
+use lib.ListN.{length}
 use Rattle.state.specs.States.{insertedOf, ejectedOf}
 use Rattle.packet.specs.Checks.{verdict}
+use Rattle.state.specs.Sound.{soundB}
 use Rattle.drive.specs.World.{World, world}
+use Rattle.drive.specs.House.{insertTests, ejectTests, lentTests, commandTests}
 use Rattle.drive.specs.Events.{event, insertOf, ejectOf}
 use Rattle.drive.specs.Commands.{obeyedOf}
 use Rattle.drive.specs.Feeds.{feedOf}
@@ -25,6 +28,16 @@ by-house w c P refuses accepts = here (eqb (houseOf w c) 0) refl
     here : (b : Bool) → eqb (houseOf w c) 0 ≡ b → P (callOf w c)
     here true q = accepts (eqb-true (houseOf w c) 0 q)
     here false q = let some = eqb-false (houseOf w c) 0 q in rw (refused w c some) (refuses some)
+
+-- the house tests ask for soundness, the disc's number and the lengths of what is lent, and for nothing else
+pub same-house : (w v : World) → soundB (w .state) ≡ soundB (v .state) → w .state .disc ≡ v .state .disc → length (w .buffer) ≡ length (v .buffer)
+    → length (w .disc) ≡ length (v .disc) → (c : Call) → houseOf w c ≡ houseOf v c
+unfolding insertTests ejectTests lentTests commandTests
+same-house w v s n b d (Insert number prot disc) = rw (s, n)
+same-house w v s n b d Eject = rw (s, n)
+same-house w v s n b d (Command p) = rw (s, n, b, d)
+same-house w v s n b d (Feed piece) = rw (s, n, b, d)
+same-house w v s n b d (Pull out) = rw (s, n, b, d)
 
 module _ (w : World) where
   pub inserted : (number : ℕ) (prot : Bool) (disc : List ℕ) → houseOf w (Insert number prot disc) ≡ 0

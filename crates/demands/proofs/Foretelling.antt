@@ -4,7 +4,7 @@ use mathlib.Core.Bool.{Bool, true, false, cond, not, _||_}
 use mathlib.Core.List.{List, []}
 use Prim.Native.Nat.{ℕ}
 use native.Mathlib.Omega.{arith}
-use borrow.Author.Tests.{eq-eqb, ne-eqb}
+use borrow.Author.Tests.{eqb-true, ne-eqb}
 use lib.Dec.{eqb}
 use lib.ListN.{length}
 use Rattle.disc.specs.Formats.{blockBytes}
@@ -31,16 +31,45 @@ use Rattle.packet.specs.declared.Known.{Known}
 use Rattle.packet.specs.declared.Known.the-variants.{Unknown, Base}
 use Rattle.drive.specs.World.{World, world}
 use Rattle.drive.specs.Commands.{routineOf, performedOf, obeyedOf}
-use Rattle.drive.specs.House.{insertTests, ejectTests, lentTests, commandTests}
 use Rattle.drive.proofs.Houses.{admits}
-use Rattle.demands.specs.Device.{Call, Insert, Eject, Command, Feed, Pull, Reply, heard, obeys, callOf}
+use Rattle.demands.specs.Device.{Call, Insert, Eject, Command, Feed, Pull, Heard, Reply, heard, obeys, callOf}
 use Rattle.demands.specs.Answered.{houseOf, judgedOf}
 use Rattle.demands.specs.Ledger.{Ledger, known}
 use Rattle.demands.specs.Faithful.{openB, foretells, foretold}
 use Rattle.demands.proofs.Answered.{leaves}
-use Rattle.demands.proofs.Calls.{by-house, inserted, ejected, obeyed}
+use Rattle.demands.proofs.Calls.{by-house, same-house, inserted, ejected, obeyed}
 use Rattle.demands.proofs.Agreeing.{Opened, Agrees}
 use Rattle.demands.proofs.Moving.{agrees-fed, agrees-pulled}
+
+-- ---- the house number that is foretold
+
+accepted-house : (l : Ledger) (c : Call) → foretells l c .house ≡ 0
+accepted-house l (Insert number prot disc) = refl
+accepted-house l Eject = refl
+accepted-house l (Command p) = refl
+accepted-house l (Feed piece) = refl
+accepted-house l (Pull out) = refl
+
+module _ (l : Ledger) (buffer disc : List ℕ) (c : Call) where
+  abbrev house : ℕ
+  house = houseOf (world (known (l .facts)) buffer disc) c
+
+  pub foretold-house : foretold l buffer disc c .house ≡ house
+  unfolding foretold
+  foretold-house = here (eqb house 0) refl
+    where
+      here : (b : Bool) → eqb house 0 ≡ b → foretold l buffer disc c .house ≡ house
+      here true q = rw q (accepted-house l c ∙ sym (eqb-true house 0 q))
+      here false q = rw q
+
+  -- of a call that is heard to be accepted, what is foretold of an accepted one
+  pub foretold-accepted : (h : Heard) → h ≡ foretold l buffer disc c → h .house ≡ 0 → h ≡ foretells l c
+  unfolding foretold
+  foretold-accepted h e none =
+      let zero : house ≡ 0 = sym foretold-house ∙ sym (ap (λ (x : Heard). x .house) e) ∙ none in
+      rw zero at e
+
+-- ---- what is heard
 
 routine-sense : (w : World) (p : List ℕ) (n : ℕ) (r : Routine) → routineOf r (w .state) p n (w .buffer) .state .sense ≡ noSense
 unfolding passedOf
@@ -71,13 +100,8 @@ module _ (w : World) (sound : soundB (w .state) ≡ true) (l : Ledger) (a : Agre
       rw (a .number, a .prot, a .sense, p .low, p .bare, p .named)
 
   -- the house tests ask no more than what the caller knows
-  same-house : (c : Call) → houseOf (world knows (w .buffer) (w .disc)) c ≡ houseOf w c
-  unfolding insertTests ejectTests lentTests commandTests
-  same-house (Insert number prot disc) = rw (known-sound, sound, a .number)
-  same-house Eject = rw (known-sound, sound, a .number)
-  same-house (Command p) = rw (known-sound, sound, a .number)
-  same-house (Feed piece) = rw (known-sound, sound, a .number)
-  same-house (Pull out) = rw (known-sound, sound, a .number)
+  known-house : (c : Call) → houseOf (world knows (w .buffer) (w .disc)) c ≡ houseOf w c
+  known-house = same-house (world knows (w .buffer) (w .disc)) w (known-sound ∙ sym sound) (a .number) refl refl
 
   -- nor do the checks
   same-verdict : (p : List ℕ) → verdict knows p ≡ verdict (w .state) p
@@ -118,5 +142,5 @@ module _ (w : World) (sound : soundB (w .state) ≡ true) (l : Ledger) (a : Agre
   unfolding foretold
   hears-foretold c =
       by-house w c (λ (x : Reply). x .heard ≡ foretold l (w .buffer) (w .disc) c)
-      (λ some. rw (same-house c, ne-eqb (houseOf w c) 0 some, a .sense))
-      (λ none. rw (same-house c, none) (hears-accepted c none))
+      (λ some. rw (known-house c, ne-eqb (houseOf w c) 0 some, a .sense))
+      (λ none. rw (known-house c, none) (hears-accepted c none))

@@ -82,10 +82,9 @@ module _ (b : ℕ) where
     pub gathered-byte : Gathered (gatherByte b s x) (feedByte b w x)
     gathered-byte = here (eqb (length more) b) refl
       where
-        here : (t : Bool) → eqb (length more) b ≡ t
-            → Gathered (cond t (store (set (s .blocks) (s .block) more) (s .block + 1) []) (store (s .blocks) (s .block) more)) (feedByte b w x)
-        here true q = last (eqb-true (length more) b q)
-        here false q = inside (eqb-false (length more) b q)
+        here : (t : Bool) → eqb (length more) b ≡ t → Gathered (gatherByte b s x) (feedByte b w x)
+        here true q = rw q (last (eqb-true (length more) b q))
+        here false q = rw q (inside (eqb-false (length more) b q))
 
   pub gathered : (xs : List ℕ) (s : Store) (w : Writing) → Gathered s w → w .at + length xs ≤ length (w .disc)
       → Gathered (gather b s xs) (feedBytes b w xs)

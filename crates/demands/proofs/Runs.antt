@@ -26,22 +26,11 @@ use Rattle.drive.specs.Commands.{spanOf, performedOf, commandOf}
 use Rattle.drive.specs.Feeds.{feedingOf, feedOf}
 use Rattle.drive.specs.Pulls.{pullOf}
 use Rattle.drive.specs.Cases.{lengthAt7, bytes2And4}
+use Rattle.demands.proofs.Foretelling.{foretold-accepted}
 use Rattle.demands.specs.Device.{Call, Insert, Command, Feed, Pull, Heard, Reply, reply, Device, moves, callOf}
 use Rattle.demands.specs.Answered.{houseOf, judgedOf}
 use Rattle.demands.specs.Ledger.{Ledger, facts, store, ledger, blocksOf, known, noted}
 use Rattle.demands.specs.Faithful.{Run, run, poweredOn, Accounted, Faithful, foretells, foretold}
-
--- what is foretold of a call that is accepted
-pub foretold-accepted : (l : Ledger) (buffer disc : List ℕ) (c : Call) (h : Heard) → h ≡ foretold l buffer disc c → h .house ≡ 0 → h ≡ foretells l c
-unfolding foretold
-foretold-accepted l buffer disc c h e none = here (eqb house 0) refl
-  where
-    house : ℕ
-    house = houseOf (world (known (l .facts)) buffer disc) c
-
-    here : (b : Bool) → eqb house 0 ≡ b → h ≡ foretells l c
-    here true q = rw q at e
-    here false q = absurd (eqb-false house 0 q (sym (ap (λ (x : Heard). x .house) (rw q at e)) ∙ none))
 
 -- the counts and bytes of an accepted feed and pull
 module _ {d : Device} {r : Run} (a : Accounted d r) where
@@ -78,15 +67,12 @@ reading at left = Read (record { at = record { 0 = at }; left = left })
 abbrev writing : ℕ → Transfer
 writing left = Write (record { at = record { 0 = 0 }; left = left })
 
--- the answers to a command and to an event
+-- the replies to a command that passes, and to one that fails or an event
 abbrev passes : World → Reply
 passes w = reply 0 true 0 [] w
 
-abbrev fails : World → Reply
-fails w = reply 0 false 0 [] w
-
-abbrev happened : World → Reply
-happened w = reply 0 false 0 [] w
+abbrev leaves : World → Reply
+leaves w = reply 0 false 0 [] w
 
 module _ (buffer disc : List ℕ) where
   -- disc 4 is in, unprotected, with the motor off
@@ -115,9 +101,9 @@ module _ (buffer disc : List ℕ) where
 
   -- how the runs start
   pub record Starts (call : World → Call → Reply) : Type 0 where
-    pub inserts : call empty (Insert 4 false disc) ≡ happened (inserted true)
-    pub tells-power : (change : Bool) → call (inserted change) (Command test) ≡ fails (power-told change)
-    pub tells-change : call (power-told true) (Command test) ≡ fails told
+    pub inserts : call empty (Insert 4 false disc) ≡ leaves (inserted true)
+    pub tells-power : (change : Bool) → call (inserted change) (Command test) ≡ leaves (power-told change)
+    pub tells-change : call (power-told true) (Command test) ≡ leaves told
 
   -- ours do, and what may follow
   pub record Ours : Type 0 where
@@ -126,7 +112,7 @@ module _ (buffer disc : List ℕ) where
     pub inquiry-passes : judgedOf (verdict (inserted true .state) inquiry) .passed ≡ true
     pub test-fails : judgedOf (verdict (inserted true .state) test) .passed ≡ false
     -- the attention that was told, told again; and what is to be told then
-    pub tells-again : callOf untold (Command test) ≡ fails (power-told true)
+    pub tells-again : callOf untold (Command test) ≡ leaves (power-told true)
     pub change-next : judgedOf (verdict (known (facts 4 false false true (triple 0x06 0x29 0x00))) test) .sense ≡ triple 0x06 0x28 0x00
     pub tests : callOf (power-told false) (Command test) ≡ passes (obeyed Closed)
     pub reads : callOf told (Command read) ≡ passes (obeyed (reading 0 512))

@@ -31,7 +31,8 @@ use Rattle.demands.specs.Wrong.{
   versionThree,
   Excluded,
 }
-use Rattle.demands.proofs.Runs.{foretold-accepted, takes, gives, test, inquiry, empty, inserted, power-told, Starts, Ours, ours, from-reading, from-writing}
+use Rattle.demands.proofs.Foretelling.{foretold-accepted}
+use Rattle.demands.proofs.Runs.{takes, gives, test, inquiry, empty, inserted, power-told, Starts, Ours, ours, from-reading, from-writing}
 
 -- a list that starts with 0 is none that starts with 7
 starts-otherwise : {l k : List ℕ} → l ≡ k → getD l 0 0 ≡ 0 → getD k 0 0 ≡ 7 → ⊥

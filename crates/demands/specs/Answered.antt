@@ -56,7 +56,8 @@ pub record Failed (w : World) (p : List ℕ) (a : Reply) : Type 0 where
   pub disc : a .world .disc ≡ w .disc
   pub buffer : a .world .buffer ≡ w .buffer
 
--- in every world: any state, block buffer and disc
+-- in every world: any state, block buffer and disc. `call` is a function, so there is a reply to every call; of ours it is what the promises
+-- of the entries say, and no entry has a `requires`
 pub record Answered (d : Device) : Type 0 where
   -- "It is given exactly then."
   pub numbered : (w : World) (c : Call) → d .call w c .heard .house ≡ houseOf w c

@@ -27,8 +27,8 @@ step d r c =
     let a = d .call (r .world) c in
     record { world = a .world; ledger = noted (r .ledger) c (a .heard) }
 
--- any calls, whatever is answered; a call with a wrong state, block buffer or disc may stand anywhere in it, since it changes nothing
--- (`Answered.refused`)
+-- any calls, whatever is answered; one that is refused for the state, block buffer or disc lent with it could stand anywhere, since it
+-- changes nothing (`Answered.refused`)
 abbrev pub run : Device → Run → List Call → Run
 run d r [] = r
 run d r (c ∷ cs) = run d (step d r c) cs
