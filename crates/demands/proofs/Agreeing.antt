@@ -13,9 +13,9 @@ use Rattle.state.specs.States.{leftOf, closedAtZero, insertedOf, ejectedOf}
 use Rattle.state.specs.Sound.{openSoundB, soundB}
 use Rattle.state.proofs.Keeps.{parts}
 use Rattle.state.proofs.Transfers.{on-disc, writes}
-use Rattle.drive.specs.World.{World, world}
-use Rattle.drive.specs.Feeds.{writing}
-use Rattle.drive.proofs.Houses.{insert-admits}
+use Rattle.house.specs.World.{World, world}
+use Rattle.house.proofs.Houses.{insert-admits}
+use Rattle.moves.specs.Feeds.{writing}
 use Rattle.demands.specs.Device.{Insert, Eject, callOf}
 use Rattle.demands.specs.Answered.{houseOf}
 use Rattle.demands.specs.Ledger.{Store, Ledger, noted}

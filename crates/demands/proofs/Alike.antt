@@ -29,9 +29,10 @@ use Rattle.packet.proofs.Below.{one-fails}
 use Rattle.packet.proofs.First.{none-failed}
 use Rattle.packet.proofs.Passing.{passesB, passing}
 use Rattle.packet.proofs.Table.{all, of-base, opensB}
-use Rattle.drive.specs.World.{World}
-use Rattle.drive.specs.Commands.{obeyedOf, commandHouse, commandOf}
-use Rattle.drive.proofs.Houses.{noneB, was-ready}
+use Rattle.house.specs.World.{World}
+use Rattle.house.specs.House.{commandHouse}
+use Rattle.house.proofs.Houses.{noneB, was-ready}
+use Rattle.commands.specs.Commands.{obeyedOf, commandOf}
 use Rattle.demands.specs.Uncut.{alike}
 
 -- ---- what the table says of a READ and a WRITE

@@ -7,10 +7,10 @@ use borrow.Author.Tests.{eqb-true}
 use lib.Dec.{eqb}
 use lib.ListN.{length}
 use Rattle.disc.specs.Formats.{formatOf, blockBytes, runBytes, discBytes, bufferBytes}
-use Rattle.drive.specs.World.{World, world}
-use Rattle.drive.specs.House.{lentTests, commandTests}
-use Rattle.drive.specs.Theorems.{Ready}
-use Rattle.drive.proofs.Houses.{admits}
+use Rattle.house.specs.World.{World, world}
+use Rattle.house.specs.House.{lentTests, commandTests}
+use Rattle.house.specs.Theorems.{Ready}
+use Rattle.house.proofs.Houses.{admits}
 use Rattle.drive.proofs.Keeps.{power-on-sound}
 use Rattle.demands.specs.Device.{Call, Insert, Eject, Command, Feed, Pull, Heard, Device}
 use Rattle.demands.specs.Answered.{houseOf, Answered}

@@ -19,9 +19,9 @@ use Rattle.packet.specs.declared.Verdict.the-variants.{Passes, Fails}
 use Rattle.packet.proofs.First.{none-failed}
 use Rattle.packet.proofs.Passing.{passesB}
 use Rattle.packet.proofs.Table.{freeB, attended}
-use Rattle.drive.specs.World.{World}
-use Rattle.drive.specs.Commands.{obeyedOf}
-use Rattle.drive.proofs.Houses.{admits}
+use Rattle.house.specs.World.{World}
+use Rattle.house.proofs.Houses.{admits}
+use Rattle.commands.specs.Commands.{obeyedOf}
 use Rattle.drive.proofs.Kept.{obeyed-flags, feed-keeps-flags, pull-keeps-flags}
 use Rattle.demands.specs.Device.{Call, Insert, Eject, Command, Feed, Pull, Reply, obeys, after, callOf, drive}
 use Rattle.demands.specs.Answered.{houseOf}

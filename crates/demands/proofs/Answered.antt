@@ -16,12 +16,14 @@ use Rattle.state.specs.Sound.{soundB}
 use Rattle.packet.specs.declared.Verdict.{Verdict}
 use Rattle.packet.specs.declared.Verdict.the-variants.{Passes, Fails}
 use Rattle.packet.specs.Checks.{verdict}
-use Rattle.drive.specs.World.{World}
-use Rattle.drive.specs.Commands.{obeyedOf, commandOf}
-use Rattle.drive.specs.Moves.{Moved}
-use Rattle.drive.specs.Pulls.{Pulled}
-use Rattle.drive.specs.Theorems.{Ready, Command as Obey, Feed as Take, Pull as Fill}
-use Rattle.drive.proofs.Houses.{let-in, command-admits}
+use Rattle.house.specs.World.{World}
+use Rattle.house.specs.Theorems.{Ready}
+use Rattle.house.proofs.Houses.{command-admits}
+use Rattle.commands.specs.Commands.{obeyedOf, commandOf}
+use Rattle.commands.proofs.Entering.{let-in}
+use Rattle.moves.specs.Moves.{Moved}
+use Rattle.moves.specs.Pulls.{Pulled}
+use Rattle.drive.specs.Theorems.{Command as Obey, Feed as Take, Pull as Fill}
 use Rattle.drive.proofs.Keeps.{insert-keeps, eject-keeps, command-keeps}
 use Rattle.drive.proofs.Moving.{feed-keeps, pull-keeps}
 use Rattle.drive.proofs.Kept.{call-ready, insert-ready, eject-ready}

@@ -7,15 +7,16 @@ use borrow.Author.Tests.{eqb-true, eqb-false}
 use lib.Dec.{eqb}
 use lib.ListN.{length}
 use Rattle.state.specs.States.{insertedOf, ejectedOf}
-use Rattle.packet.specs.Checks.{verdict}
 use Rattle.state.specs.Sound.{soundB}
-use Rattle.drive.specs.World.{World, world}
-use Rattle.drive.specs.House.{insertTests, ejectTests, lentTests, commandTests}
-use Rattle.drive.specs.Events.{event, insertOf, ejectOf}
-use Rattle.drive.specs.Commands.{obeyedOf}
-use Rattle.drive.specs.Feeds.{feedOf}
-use Rattle.drive.specs.Pulls.{pullOf}
-use Rattle.drive.proofs.Houses.{let-in, command-admits}
+use Rattle.packet.specs.Checks.{verdict}
+use Rattle.house.specs.World.{World, world}
+use Rattle.house.specs.House.{insertTests, ejectTests, lentTests, commandTests}
+use Rattle.house.proofs.Houses.{command-admits}
+use Rattle.commands.specs.Events.{event, insertOf, ejectOf}
+use Rattle.commands.specs.Commands.{obeyedOf}
+use Rattle.commands.proofs.Entering.{let-in}
+use Rattle.moves.specs.Feeds.{feedOf}
+use Rattle.moves.specs.Pulls.{pullOf}
 use Rattle.demands.specs.Device.{Call, Insert, Eject, Command, Feed, Pull, Reply, happens, obeys, moves, callOf}
 use Rattle.demands.specs.Answered.{houseOf, refusal}
 use Rattle.demands.proofs.Answered.{refused}

@@ -13,28 +13,12 @@ use Rattle.state.specs.declared.Transfer.{Transfer}
 use Rattle.state.specs.declared.Transfer.the-variants.{Closed, Answer, Read, Write}
 use Rattle.state.proofs.Keeps.{parts}
 use Rattle.state.proofs.Transfers.{in-buffer, on-disc, writes}
-use Rattle.drive.specs.World.{World}
-use Rattle.drive.specs.Theorems.{Ready}
-use Rattle.drive.proofs.Entering.{feeds as fed, pulls as pulled}
+use Rattle.house.specs.World.{World}
+use Rattle.house.specs.Theorems.{Ready}
+use Rattle.moves.proofs.Entering.{feeds as fed, pulls as pulled}
 use Rattle.demands.specs.Device.{Call, Feed, Pull, Device, callOf, drive}
 use Rattle.demands.specs.Uncut.{Lent, lent, lendAll, CutAnywhere}
-use Rattle.demands.proofs.Lending.{
-  lendOne,
-  join,
-  Kind,
-  moving,
-  Serves,
-  unmoved,
-  lends,
-  first-moves,
-  Puts,
-  Feeds,
-  feed-served,
-  Gives,
-  Pulls,
-  read-served,
-  answer-served,
-}
+use Rattle.demands.proofs.Lending.{lendOne, join, Kind, moving, Serves, unmoved, lends, first-moves, Puts, Feeds, feed-served, Gives, Pulls, read-served, answer-served}
 
 -- ---- what a lending finds
 

@@ -6,6 +6,7 @@ use Prim.Native.Nat.{ℕ}
 use borrow.Author.Tests.{ne-eqb}
 use Rattle.state.specs.Sound.{soundB}
 use Rattle.state.specs.Senses.{noSense}
+use Rattle.state.specs.States.{passedOf}
 use Rattle.packet.specs.Fields.{lengthOf}
 use Rattle.packet.specs.Checks.{verdict}
 use Rattle.packet.specs.declared.Rule.{Rule}
@@ -13,10 +14,9 @@ use Rattle.packet.specs.declared.Routine.{Routine}
 use Rattle.packet.specs.declared.Routine.the-variants.{Nothing, Motor, Answer, Read, Write}
 use Rattle.packet.specs.declared.Verdict.{Verdict}
 use Rattle.packet.specs.declared.Verdict.the-variants.{Passes, Fails}
-use Rattle.state.specs.States.{passedOf}
-use Rattle.drive.specs.World.{World}
-use Rattle.drive.specs.Commands.{routineOf, performedOf, obeyedOf}
-use Rattle.drive.proofs.Houses.{admits}
+use Rattle.house.specs.World.{World}
+use Rattle.house.proofs.Houses.{admits}
+use Rattle.commands.specs.Commands.{routineOf, performedOf, obeyedOf}
 use Rattle.drive.proofs.Keeps.{power-on-sound}
 use Rattle.demands.specs.Device.{Call, Insert, Eject, Command, Feed, Pull, Heard, Reply, callOf, drive}
 use Rattle.demands.specs.Answered.{houseOf, judgedOf}

@@ -29,9 +29,9 @@ use Rattle.packet.specs.Rules.{ruleOf}
 use Rattle.packet.specs.Checks.{checksOf, verdictOf, verdict}
 use Rattle.packet.specs.declared.Known.{Known}
 use Rattle.packet.specs.declared.Known.the-variants.{Unknown, Base}
-use Rattle.drive.specs.World.{World, world}
-use Rattle.drive.specs.Commands.{routineOf, performedOf, obeyedOf}
-use Rattle.drive.proofs.Houses.{admits}
+use Rattle.house.specs.World.{World, world}
+use Rattle.house.proofs.Houses.{admits}
+use Rattle.commands.specs.Commands.{routineOf, performedOf, obeyedOf}
 use Rattle.demands.specs.Device.{Call, Insert, Eject, Command, Feed, Pull, Heard, Reply, heard, obeys, callOf}
 use Rattle.demands.specs.Answered.{houseOf, judgedOf}
 use Rattle.demands.specs.Ledger.{Ledger, known}

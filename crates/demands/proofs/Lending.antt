@@ -15,14 +15,15 @@ use Rattle.state.specs.declared.AnswerAt.{AnswerAt}
 use Rattle.state.specs.declared.DiscAt.{DiscAt}
 use Rattle.state.specs.declared.Transfer.{Transfer}
 use Rattle.state.specs.declared.Transfer.the-variants.{Closed, Answer, Read, Write}
-use Rattle.drive.specs.World.{World, world}
-use Rattle.drive.specs.Moves.{unmovedOf}
-use Rattle.drive.specs.Feeds.{Writing, writing, feedByte, feedBytes, takenOf, feedingOf, feedOf}
-use Rattle.drive.specs.Pulls.{pulled, pullingOf, pullOf}
-use Rattle.drive.specs.Theorems.{Ready, Feed as FeedCall, Pull as PullCall}
-use Rattle.drive.proofs.Feeding.{feed-append}
+use Rattle.house.specs.World.{World, world}
+use Rattle.house.specs.Theorems.{Ready}
+use Rattle.moves.specs.Moves.{unmovedOf}
+use Rattle.moves.specs.Feeds.{Writing, writing, feedByte, feedBytes, takenOf, feedingOf, feedOf}
+use Rattle.moves.specs.Pulls.{pulled, pullingOf, pullOf}
+use Rattle.moves.proofs.Feeding.{feed-append}
+use Rattle.moves.proofs.Entering.{feeds, pulls}
+use Rattle.drive.specs.Theorems.{Feed as FeedCall, Pull as PullCall}
 use Rattle.drive.proofs.Kept.{call-ready}
-use Rattle.drive.proofs.Entering.{feeds, pulls}
 use Rattle.demands.specs.Device.{Call, Feed, Pull, Device, callOf, drive}
 use Rattle.demands.specs.Uncut.{Lent, lent}
 

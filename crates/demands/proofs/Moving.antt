@@ -11,12 +11,12 @@ use Rattle.disc.specs.Formats.{blockBytes}
 use Rattle.state.specs.declared.Transfer.{Transfer}
 use Rattle.state.specs.declared.Transfer.the-variants.{Closed, Answer, Read, Write}
 use Rattle.state.specs.States.{movedOf}
-use Rattle.drive.specs.World.{World, world}
-use Rattle.drive.specs.Moves.{answerAfter, discAfter}
-use Rattle.drive.specs.Feeds.{Writing, writing, feedByte, feedBytes, takenOf, feedingOf}
-use Rattle.drive.specs.Pulls.{pullingOf}
-use Rattle.drive.specs.Theorems.{Ready}
-use Rattle.drive.proofs.Entering.{may-answer, may-read, may-write, feeds, pulls}
+use Rattle.house.specs.World.{World, world}
+use Rattle.house.specs.Theorems.{Ready}
+use Rattle.moves.specs.Moves.{answerAfter, discAfter}
+use Rattle.moves.specs.Feeds.{Writing, writing, feedByte, feedBytes, takenOf, feedingOf}
+use Rattle.moves.specs.Pulls.{pullingOf}
+use Rattle.moves.proofs.Entering.{may-answer, may-read, may-write, feeds, pulls}
 use Rattle.demands.specs.Device.{Feed, Pull, heard, moves, callOf}
 use Rattle.demands.specs.Ledger.{Store, Ledger, ledger, gather, noted}
 use Rattle.demands.specs.Faithful.{foretells}

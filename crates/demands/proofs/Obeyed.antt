@@ -10,16 +10,17 @@ use lib.ListN.{length, take, set, replicate, length-replicate, replicate-append-
 use lib.Seq.{sets, length-sets}
 use Rattle.state.specs.declared.Transfer.{Transfer}
 use Rattle.state.specs.declared.Transfer.the-variants.{Closed, Answer as AnswerFrom, Read, Write}
+use Rattle.state.specs.States.{withTransfer, movedOf}
 use Rattle.packet.specs.Fields.{addressOf}
 use Rattle.packet.specs.declared.Rule.{Rule}
-use Rattle.drive.specs.World.{World, world}
-use Rattle.state.specs.States.{withTransfer, movedOf}
-use Rattle.drive.specs.Feeds.{takenOf, feedingOf, feedOf}
-use Rattle.drive.specs.Theorems.{Ready, Feed as FeedCall}
-use Rattle.drive.proofs.Houses.{ready-in}
+use Rattle.house.specs.World.{World, world}
+use Rattle.house.specs.Theorems.{Ready}
+use Rattle.house.proofs.Houses.{ready-in}
+use Rattle.moves.specs.Feeds.{takenOf, feedingOf, feedOf}
+use Rattle.moves.proofs.Entering.{feeds as feeds-by}
+use Rattle.drive.specs.Theorems.{Feed as FeedCall}
 use Rattle.drive.proofs.Moving.{feed-keeps}
 use Rattle.drive.proofs.Refusing.{feed-refuses}
-use Rattle.drive.proofs.Entering.{feeds as feeds-by}
 use Rattle.demands.specs.Device.{Call, Command, Feed, Pull, Device, callOf, drive}
 use Rattle.demands.specs.Uncut.{Lent, lent, lendAll, CutAnywhere, carried, Part}
 use Rattle.demands.specs.Wrong.{handsOutZeros, discardsFeeds, firstBlockOnly, firstPullOnly, pulledOnce, versionOne, storedAt, versionThree, OnePullEach, Obeyed}

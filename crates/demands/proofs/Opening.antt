@@ -17,8 +17,7 @@ use Rattle.state.specs.declared.Transfer.{Transfer}
 use Rattle.state.specs.declared.Transfer.the-variants.{Closed, Answer as AnswerFrom, Read as ReadFrom, Write as WriteTo}
 use Rattle.state.specs.Senses.{noSense}
 use Rattle.state.specs.States.{failedOf, passedOf}
-use Rattle.state.proofs.Keeps.{parts}
-use Rattle.state.proofs.Keeps.{failed-disc}
+use Rattle.state.proofs.Keeps.{parts, failed-disc}
 use Rattle.state.specs.declared.Failure.{Failure}
 use Rattle.packet.specs.Fields.{byteAt, addressOf, lengthOf}
 use Rattle.packet.specs.Rules.{ruleOf}
@@ -37,11 +36,11 @@ use Rattle.packet.specs.declared.Routine.the-variants.{Nothing, Motor, Answer, 
 use Rattle.answer.specs.Answers.{senseData, inquiryData, capacityData, withDiscData, withoutDiscData, capacitiesData, modeData}
 use Rattle.answer.specs.Giving.{answerOf, allocationOf, giveOf}
 use Rattle.answer.proofs.Lengths.{give-count, give-length}
-use Rattle.drive.specs.World.{World, world}
-use Rattle.drive.specs.Commands.{spanOf, routineOf, performedOf, obeyedOf}
-use Rattle.drive.specs.Feeds.{writing}
-use Rattle.drive.specs.Theorems.{Ready}
-use Rattle.drive.proofs.Houses.{command-admits}
+use Rattle.house.specs.World.{World, world}
+use Rattle.house.specs.Theorems.{Ready}
+use Rattle.house.proofs.Houses.{command-admits}
+use Rattle.commands.specs.Commands.{spanOf, routineOf, performedOf, obeyedOf}
+use Rattle.moves.specs.Feeds.{writing}
 use Rattle.demands.specs.Device.{Command, obeys, callOf}
 use Rattle.demands.specs.Answered.{houseOf}
 use Rattle.demands.specs.Ledger.{store, Ledger, ledger, told, known, opened, noted}

@@ -19,12 +19,12 @@ use Rattle.packet.specs.Rules.{rules, ruleOf}
 use Rattle.packet.specs.Checks.{inMaskB, checksOf, verdict}
 use Rattle.answer.specs.Answers.{inquiryData}
 use Rattle.answer.specs.Giving.{answerOf, allocationOf, giveOf}
-use Rattle.drive.specs.World.{World, world}
-use Rattle.drive.specs.House.{lentTests, commandTests, insertTests}
-use Rattle.drive.specs.Events.{insertOf}
-use Rattle.drive.specs.Commands.{spanOf, performedOf, commandOf}
-use Rattle.drive.specs.Feeds.{feedingOf, feedOf}
-use Rattle.drive.specs.Pulls.{pullOf}
+use Rattle.house.specs.World.{World, world}
+use Rattle.house.specs.House.{lentTests, commandTests, insertTests}
+use Rattle.commands.specs.Events.{insertOf}
+use Rattle.commands.specs.Commands.{spanOf, performedOf, commandOf}
+use Rattle.moves.specs.Feeds.{feedingOf, feedOf}
+use Rattle.moves.specs.Pulls.{pullOf}
 use Rattle.drive.specs.Cases.{lengthAt7, bytes2And4}
 use Rattle.demands.proofs.Foretelling.{foretold-accepted}
 use Rattle.demands.specs.Device.{Call, Insert, Command, Feed, Pull, Heard, Reply, reply, Device, moves, callOf}

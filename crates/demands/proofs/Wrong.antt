@@ -8,29 +8,15 @@ use borrow.Author.Tests.{eq-eqb, ne-eqb}
 use lib.ListN.{length, getD, set, length-replicate, length-append}
 use lib.Seq.{take-all, append-snoc}
 use Rattle.disc.specs.Formats.{bufferBytes, formatOf, blockBytes}
-use Rattle.answer.specs.Bytes.{zeros}
 use Rattle.state.specs.declared.Sense.{Sense}
-use Rattle.drive.specs.World.{World}
-use Rattle.drive.specs.Feeds.{takenOf}
+use Rattle.answer.specs.Bytes.{zeros}
+use Rattle.house.specs.World.{World}
+use Rattle.moves.specs.Feeds.{takenOf}
 use Rattle.demands.specs.Device.{Call, Insert, Command, Feed, Pull, Reply, Device, after, Heard}
 use Rattle.demands.specs.Answered.{Judged}
 use Rattle.demands.specs.Ledger.{store, blocksOf, gather, noted}
 use Rattle.demands.specs.Faithful.{someAnswersB, Faithful}
-use Rattle.demands.specs.Wrong.{
-  altered,
-  failsEverything,
-  passesEverything,
-  handsOutZeros,
-  discardsFeeds,
-  firstBlockOnly,
-  firstPullOnly,
-  makesUpCounts,
-  neverReady,
-  versionOne,
-  versionTwo,
-  versionThree,
-  Excluded,
-}
+use Rattle.demands.specs.Wrong.{altered, failsEverything, passesEverything, handsOutZeros, discardsFeeds, firstBlockOnly, firstPullOnly, makesUpCounts, neverReady, versionOne, versionTwo, versionThree, Excluded}
 use Rattle.demands.proofs.Foretelling.{foretold-accepted}
 use Rattle.demands.proofs.Runs.{takes, gives, test, inquiry, empty, inserted, power-told, Starts, Ours, ours, from-reading, from-writing}
 

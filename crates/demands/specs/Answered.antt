@@ -12,11 +12,9 @@ use Rattle.state.specs.Sound.{soundB}
 use Rattle.packet.specs.declared.Verdict.{Verdict}
 use Rattle.packet.specs.declared.Verdict.the-variants.{Passes, Fails}
 use Rattle.packet.specs.Checks.{verdict}
-use Rattle.drive.specs.World.{World}
-use Rattle.drive.specs.House.{firstRefusal, insertTests, ejectTests}
-use Rattle.drive.specs.Commands.{commandHouse}
-use Rattle.drive.specs.Moves.{moveHouse}
-use Rattle.drive.specs.Theorems.{Ready}
+use Rattle.house.specs.World.{World}
+use Rattle.house.specs.House.{firstRefusal, insertTests, ejectTests, commandHouse, moveHouse}
+use Rattle.house.specs.Theorems.{Ready}
 use Rattle.demands.specs.Device.{Call, Insert, Eject, Command, Feed, Pull, Reply, reply, Device}
 
 -- the number of the first house test that a call fails, 0 for none

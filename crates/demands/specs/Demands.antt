@@ -4,7 +4,7 @@ use mathlib.Core.List.{List, [], _∷_}
 use Prim.Native.Nat.{ℕ}
 use lib.ListN.{length}
 use Rattle.disc.specs.Formats.{bufferBytes}
-use Rattle.drive.specs.World.{World, world}
+use Rattle.house.specs.World.{World, world}
 use Rattle.demands.specs.Device.{Call, Heard, Device, drive}
 use Rattle.demands.specs.Answered.{Answered}
 use Rattle.demands.specs.Faithful.{Faithful}

@@ -5,12 +5,12 @@ use Prim.Native.Nat.{ℕ}
 use Rattle.state.specs.declared.Sense.{Sense}
 use Rattle.state.specs.declared.State.{State}
 use Rattle.state.specs.States.{powerOn}
-use Rattle.drive.specs.World.{World, world}
-use Rattle.drive.specs.Events.{Happened, insertOf, ejectOf}
-use Rattle.drive.specs.Commands.{Commanded, commandOf}
-use Rattle.drive.specs.Moves.{Moved}
-use Rattle.drive.specs.Feeds.{feedOf}
-use Rattle.drive.specs.Pulls.{pullOf}
+use Rattle.house.specs.World.{World, world}
+use Rattle.commands.specs.Events.{Happened, insertOf, ejectOf}
+use Rattle.commands.specs.Commands.{Commanded, commandOf}
+use Rattle.moves.specs.Moves.{Moved}
+use Rattle.moves.specs.Feeds.{feedOf}
+use Rattle.moves.specs.Pulls.{pullOf}
 
 -- a call with what is lent for it: a disc with its number and protection, a packet, a piece, the caller's buffer
 pub data Call : Type 0 where

@@ -18,7 +18,7 @@ use Rattle.packet.specs.declared.Known.the-variants.{Unknown, Base}
 use Rattle.packet.specs.declared.Routine.{Routine}
 use Rattle.packet.specs.declared.Routine.the-variants.{Nothing, Motor, Answer, Read, Write}
 use Rattle.answer.specs.Giving.{answerOf, allocationOf}
-use Rattle.drive.specs.World.{World, world}
+use Rattle.house.specs.World.{World, world}
 use Rattle.demands.specs.Device.{Call, Insert, Eject, Command, Feed, Pull, Heard, heard}
 use Rattle.demands.specs.Answered.{houseOf, lentFor, judgedOf}
 

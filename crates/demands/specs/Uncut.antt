@@ -19,8 +19,8 @@ use Rattle.packet.specs.declared.Routine.the-variants.{Nothing, Motor, Answer, 
 use Rattle.packet.specs.declared.Known.{Known}
 use Rattle.packet.specs.declared.Known.the-variants.{Unknown, Base}
 use Rattle.answer.specs.Bytes.{be2, be4}
-use Rattle.drive.specs.World.{World}
-use Rattle.drive.specs.Theorems.{Ready}
+use Rattle.house.specs.World.{World}
+use Rattle.house.specs.Theorems.{Ready}
 use Rattle.demands.specs.Device.{Call, Command, Feed, Pull, Device}
 use Rattle.demands.specs.Faithful.{Faithful}
 

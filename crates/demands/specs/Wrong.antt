@@ -14,9 +14,9 @@ use Rattle.state.specs.declared.Transfer.{Transfer}
 use Rattle.state.specs.declared.Transfer.the-variants.{Closed, Answer as AnswerFrom, Read, Write}
 use Rattle.state.specs.States.{stateOf, powerOn, withTransfer, failedOf, passedOf}
 use Rattle.packet.specs.Fields.{byteAt, addressOf}
-use Rattle.drive.specs.World.{World, world}
 use Rattle.packet.specs.declared.Rule.{Rule}
 use Rattle.packet.specs.declared.Routine.the-variants.{Read as Reads}
+use Rattle.house.specs.World.{World, world}
 use Rattle.demands.specs.Device.{Call, Insert, Eject, Command, Feed, Pull, Reply, reply, Device, callOf}
 use Rattle.demands.specs.Faithful.{Faithful}
 use Rattle.demands.specs.Uncut.{CutAnywhere, Cuttings, READ, Part, Cut, carry, carryAll}

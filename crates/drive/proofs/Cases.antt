@@ -18,12 +18,12 @@ use Rattle.packet.specs.Rules.{rules, ruleOf}
 use Rattle.packet.specs.Checks.{inMaskB, checksOf, verdict}
 use Rattle.answer.specs.Answers.{senseData, inquiryData}
 use Rattle.answer.specs.Giving.{answerOf, allocationOf, giveOf}
-use Rattle.drive.specs.World.{world}
-use Rattle.drive.specs.House.{lentTests, commandTests}
-use Rattle.drive.specs.Commands.{Commanded, spanOf, performedOf, commandOf}
-use Rattle.drive.specs.Feeds.{takenOf, feedOf}
+use Rattle.house.specs.World.{world}
+use Rattle.house.specs.House.{lentTests, commandTests}
+use Rattle.commands.specs.Commands.{Commanded, spanOf, performedOf, commandOf}
+use Rattle.moves.specs.Feeds.{takenOf, feedOf}
+use Rattle.moves.proofs.Feeding.{share-part}
 use Rattle.drive.specs.Cases.{plain, lengthAt7, bytes2And4, cases, outcome, expected, Starred}
-use Rattle.drive.proofs.Feeding.{share-part}
 
 module _ (disc : List ℕ) (d : length disc ≡ 1474560) where
   -- the write of block 0, so far on

@@ -31,12 +31,12 @@ use Rattle.packet.proofs.Passing.{passesB, passing}
 use Rattle.packet.proofs.Table.{opensB, writesB, guarded}
 use Rattle.answer.specs.Giving.{giveOf}
 use Rattle.answer.proofs.Lengths.{give-count}
-use Rattle.drive.specs.House.{firstRefusal, insertTests, ejectTests}
-use Rattle.drive.specs.Events.{event, unlessRefused, insertOf, ejectOf}
-use Rattle.drive.specs.World.{World, world}
-use Rattle.drive.specs.Commands.{spanOf, routineOf, performedOf, obeyedOf, commandHouse, commandOf}
+use Rattle.house.specs.House.{firstRefusal, insertTests, ejectTests, commandHouse}
+use Rattle.house.specs.World.{World, world}
+use Rattle.house.proofs.Houses.{noneB, insert-admits, was-ready}
+use Rattle.commands.specs.Events.{event, unlessRefused, insertOf, ejectOf}
+use Rattle.commands.specs.Commands.{spanOf, routineOf, performedOf, obeyedOf, commandOf}
 use Rattle.drive.specs.Theorems.{PowerOnSound, InsertKeeps, EjectKeeps, CommandKeeps}
-use Rattle.drive.proofs.Houses.{noneB, insert-admits, was-ready}
 
 pub power-on-sound : PowerOnSound
 unfolding soundB namedB openSoundB

@@ -23,19 +23,20 @@ use Rattle.packet.specs.declared.Verdict.the-variants.{Passes, Fails}
 use Rattle.packet.specs.declared.Routine.{Routine}
 use Rattle.packet.specs.declared.Routine.the-variants.{Nothing, Motor, Answer, Read, Write}
 use Rattle.answer.proofs.Lengths.{give-length}
-use Rattle.drive.specs.World.{World, world}
-use Rattle.drive.specs.House.{firstRefusal, insertTests, ejectTests}
-use Rattle.drive.specs.Events.{event, unlessRefused, insertOf, ejectOf}
-use Rattle.drive.specs.Commands.{routineOf, performedOf, obeyedOf, commandHouse, commandOf}
-use Rattle.drive.specs.Moves.{discAfter}
-use Rattle.drive.specs.Feeds.{writing, takenOf, feedingOf, feedOf}
-use Rattle.drive.specs.Pulls.{pullingOf, pullOf}
-use Rattle.drive.specs.Theorems.{Ready, Call, Command, Feed, Pull, callOf, CallReady, InsertReady, EjectReady}
-use Rattle.drive.proofs.Houses.{noneB, insert-admits}
+use Rattle.house.specs.World.{World, world}
+use Rattle.house.specs.House.{firstRefusal, insertTests, ejectTests, commandHouse}
+use Rattle.house.specs.Theorems.{Ready}
+use Rattle.house.proofs.Houses.{noneB, insert-admits}
+use Rattle.commands.specs.Events.{event, unlessRefused, insertOf, ejectOf}
+use Rattle.commands.specs.Commands.{routineOf, performedOf, obeyedOf, commandOf}
+use Rattle.moves.specs.Moves.{discAfter}
+use Rattle.moves.specs.Feeds.{writing, takenOf, feedingOf, feedOf}
+use Rattle.moves.specs.Pulls.{pullingOf, pullOf}
+use Rattle.moves.proofs.Feeding.{feed-lengths}
+use Rattle.moves.proofs.Entering.{may-write, feeds, pulls}
+use Rattle.drive.specs.Theorems.{Call, Command, Feed, Pull, callOf, CallReady, InsertReady, EjectReady}
 use Rattle.drive.proofs.Keeps.{command-keeps}
 use Rattle.drive.proofs.Moving.{feed-keeps, pull-keeps}
-use Rattle.drive.proofs.Feeding.{feed-lengths}
-use Rattle.drive.proofs.Entering.{may-write, feeds, pulls}
 
 abbrev pub attentionB : Failure → Bool
 attentionB (Pending a) = true

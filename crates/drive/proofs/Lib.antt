@@ -1,15 +1,8 @@
 pub mod Cases
-pub mod Houses
 pub mod Keeps
 pub mod Single
 pub mod Kept
 pub mod Pending
-pub mod Blocks
-pub mod Parts
-pub mod Feeding
-pub mod Sharing
-pub mod Pulling
-pub mod Entering
 pub mod Refusing
 pub mod Moving
 pub mod Whole

@@ -14,12 +14,13 @@ use Rattle.state.specs.States.{movedOf}
 use Rattle.state.specs.Sound.{openSoundB, soundB}
 use Rattle.state.proofs.Keeps.{parts, moved-sound}
 use Rattle.state.proofs.Transfers.{OnDisc, EndsOnBlock, in-buffer, answer-sound, on-disc, on-disc-sound, writes, writes-sound}
-use Rattle.drive.specs.World.{World}
-use Rattle.drive.specs.Moves.{moveHouse, unmovedOf, answerAfter, discAfter}
-use Rattle.drive.specs.Feeds.{takenOf, feedingOf, feedOf}
-use Rattle.drive.specs.Pulls.{pulled, pullingOf, pullOf}
+use Rattle.house.specs.World.{World}
+use Rattle.house.specs.House.{moveHouse}
+use Rattle.house.proofs.Houses.{noneB}
+use Rattle.moves.specs.Moves.{unmovedOf, answerAfter, discAfter}
+use Rattle.moves.specs.Feeds.{takenOf, feedingOf, feedOf}
+use Rattle.moves.specs.Pulls.{pulled, pullingOf, pullOf}
 use Rattle.drive.specs.Theorems.{FeedKeeps, PullKeeps}
-use Rattle.drive.proofs.Houses.{noneB}
 
 -- ---- n bytes further on, what is left ends where it did
 

@@ -23,10 +23,13 @@ use Rattle.packet.specs.declared.Known.the-variants.{Unknown, Base}
 use Rattle.packet.specs.declared.Verdict.{Verdict}
 use Rattle.packet.specs.declared.Verdict.the-variants.{Fails}
 use Rattle.packet.proofs.Table.{freeB, attended}
-use Rattle.drive.specs.World.{World, world}
-use Rattle.drive.specs.Commands.{obeyedOf, commandHouse, commandOf}
-use Rattle.drive.specs.Theorems.{Ready, baseB, attendedB, Call, Command, Feed, Pull, callOf, attendedCount, reportsB, someReportsB, SecondAtLatest}
-use Rattle.drive.proofs.Houses.{noneB, let-in, was-ready}
+use Rattle.house.specs.World.{World, world}
+use Rattle.house.specs.House.{commandHouse}
+use Rattle.house.specs.Theorems.{Ready}
+use Rattle.house.proofs.Houses.{noneB, was-ready}
+use Rattle.commands.specs.Commands.{obeyedOf, commandOf}
+use Rattle.commands.proofs.Entering.{let-in}
+use Rattle.drive.specs.Theorems.{baseB, attendedB, Call, Command, Feed, Pull, callOf, attendedCount, reportsB, someReportsB, SecondAtLatest}
 use Rattle.drive.proofs.Kept.{attentionB, pendingB, obeyed-flags, feed-keeps-flags, pull-keeps-flags, call-ready}
 
 -- ---- which verdicts are a pending attention

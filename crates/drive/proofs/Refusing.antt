@@ -12,13 +12,13 @@ use Rattle.state.specs.States.{insertedOf, ejectedOf}
 use Rattle.packet.specs.declared.Verdict.{Verdict}
 use Rattle.packet.specs.declared.Verdict.the-variants.{Passes, Fails}
 use Rattle.packet.specs.Checks.{verdict}
-use Rattle.drive.specs.World.{World, world}
-use Rattle.drive.specs.House.{firstRefusal, insertTests, ejectTests}
-use Rattle.drive.specs.Events.{Happened, event, insertOf, ejectOf}
-use Rattle.drive.specs.Commands.{Commanded, obeyedOf, commandHouse, commandOf}
-use Rattle.drive.specs.Moves.{Moved, moveHouse, unmovedOf}
-use Rattle.drive.specs.Feeds.{feedingOf, feedOf}
-use Rattle.drive.specs.Pulls.{Pulled, pulled, pullingOf, pullOf}
+use Rattle.house.specs.World.{World, world}
+use Rattle.house.specs.House.{firstRefusal, insertTests, ejectTests, commandHouse, moveHouse}
+use Rattle.commands.specs.Events.{Happened, event, insertOf, ejectOf}
+use Rattle.commands.specs.Commands.{Commanded, obeyedOf, commandOf}
+use Rattle.moves.specs.Moves.{Moved, unmovedOf}
+use Rattle.moves.specs.Feeds.{feedingOf, feedOf}
+use Rattle.moves.specs.Pulls.{Pulled, pulled, pullingOf, pullOf}
 use Rattle.drive.specs.Theorems.{Refuses, InsertRefuses, EjectRefuses, CommandRefuses, FeedRefuses, PullRefuses}
 
 module _ {A : Type 0} (number : A → ℕ) where

@@ -1,37 +1,16 @@
 -- Two replies that an entry's promise allows are equal. Assumes nothing.
-use mathlib.Core.Path.{_≡_, refl, sym, _∙_, ap}
-use mathlib.Core.List.{List, [], _∷_}
+use mathlib.Core.Path.{_≡_, sym, _∙_, ap}
+use mathlib.Core.List.{List, []}
 use Prim.Native.Nat.{ℕ}
-use lib.ListN.{getD}
-use Rattle.drive.specs.declared.House.{House}
-use Rattle.drive.specs.declared.House.the-variants.{Accepted, PacketLength, Unsound, BufferLength, DiscLength, DiscIn, NoDiscIn, NoSuchDisc}
-use Rattle.drive.specs.declared.EventReply.{EventReply}
-use Rattle.drive.specs.declared.MoveReply.{MoveReply}
-use Rattle.drive.specs.World.{World}
-use Rattle.drive.specs.House.{numberOf}
-use Rattle.drive.specs.Events.{Happened, happened}
-use Rattle.drive.specs.Commands.{Commanded}
-use Rattle.drive.specs.Moves.{Moved, moved}
-use Rattle.drive.specs.Pulls.{Pulled}
+use Rattle.house.specs.World.{World}
+use Rattle.house.proofs.Houses.{one-house}
+use Rattle.commands.specs.declared.EventReply.{EventReply}
+use Rattle.commands.specs.Events.{Happened, happened}
+use Rattle.commands.specs.Commands.{Commanded}
+use Rattle.moves.specs.declared.MoveReply.{MoveReply}
+use Rattle.moves.specs.Moves.{Moved, moved}
+use Rattle.moves.specs.Pulls.{Pulled}
 use Rattle.drive.specs.Theorems.{OnePowerOn, OneInsertion, OneEjection, OneCommand, OneFeed, OnePull}
-
--- the houses by number
-abbrev houses : List House
-houses = Accepted ∷ PacketLength ∷ Unsound ∷ BufferLength ∷ DiscLength ∷ DiscIn ∷ NoDiscIn ∷ NoSuchDisc ∷ []
-
-by-number : (h : House) → getD houses (numberOf h) Accepted ≡ h
-by-number Accepted = refl
-by-number PacketLength = refl
-by-number Unsound = refl
-by-number BufferLength = refl
-by-number DiscLength = refl
-by-number DiscIn = refl
-by-number NoDiscIn = refl
-by-number NoSuchDisc = refl
-
--- a number is that of one house
-pub one-house : (h g : House) → numberOf h ≡ numberOf g → h ≡ g
-one-house h g e = sym (by-number h) ∙ ap (λ (n : ℕ). getD houses n Accepted) e ∙ by-number g
 
 one-event : (w : World) (disc : List ℕ) (r q : EventReply) → happened r w disc ≡ happened q w disc → r ≡ q
 one-event w disc r q e =

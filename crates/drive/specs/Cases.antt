@@ -12,9 +12,9 @@ use Rattle.state.specs.declared.Transfer.the-variants.{Closed, Answer, Read}
 use Rattle.state.specs.Senses.{triple, noSense}
 use Rattle.state.specs.States.{stateOf, withTransfer}
 use Rattle.answer.specs.Bytes.{be2, be4}
-use Rattle.drive.specs.World.{world}
-use Rattle.drive.specs.Commands.{commandOf}
-use Rattle.drive.specs.Feeds.{feedOf}
+use Rattle.house.specs.World.{world}
+use Rattle.commands.specs.Commands.{commandOf}
+use Rattle.moves.specs.Feeds.{feedOf}
 
 -- "Disc 3, no flags, unless said"
 abbrev pub plain : State

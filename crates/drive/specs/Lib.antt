@@ -1,10 +1,2 @@
-pub mod World
-pub mod House
-pub mod Events
-pub mod Commands
-pub mod Places
-pub mod Moves
-pub mod Feeds
-pub mod Pulls
 pub mod Theorems
 pub mod Cases

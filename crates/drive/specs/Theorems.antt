@@ -1,11 +1,11 @@
--- What holds of the entries; proved in proofs/Keeps, Moving, Kept, Single, Refusing, Houses, Whole and Pending.
+-- What holds of the entries; proved in proofs/Keeps, Moving, Kept, Single, Refusing, Whole and Pending.
 use mathlib.Core.Path.{_≡_}
 use mathlib.Core.Bool.{Bool, true, false, cond, not, _&&_, _||_}
 use mathlib.Core.List.{List, [], _∷_, _++_}
 use Prim.Native.Nat.{ℕ, suc, _+_, _-_, _%_, _≤_}
 use lib.Dec.{eqb, leb, ltb}
 use lib.ListN.{length, take, drop}
-use Rattle.disc.specs.Formats.{bufferBytes, blockBytes, discBytes, placeOf}
+use Rattle.disc.specs.Formats.{bufferBytes, blockBytes, placeOf}
 use Rattle.disc.specs.declared.BlockAddress.{BlockAddress}
 use Rattle.state.specs.declared.State.{State}
 use Rattle.state.specs.declared.DiscAt.{DiscAt}
@@ -20,17 +20,18 @@ use Rattle.packet.specs.Rules.{ruleOf}
 use Rattle.packet.specs.Checks.{otherUnitB}
 use Rattle.packet.specs.declared.Known.{Known}
 use Rattle.packet.specs.declared.Known.the-variants.{Unknown, Base}
-use Rattle.drive.specs.declared.EventReply.{EventReply}
-use Rattle.drive.specs.declared.CommandReply.{CommandReply}
-use Rattle.drive.specs.declared.MoveReply.{MoveReply}
-use Rattle.drive.specs.World.{World}
-use Rattle.drive.specs.House.{firstRefusal, insertTests, ejectTests}
-use Rattle.drive.specs.Events.{Happened, happened, insertOf, ejectOf}
-use Rattle.drive.specs.Commands.{Commanded, commanded, commandHouse, commandOf}
-use Rattle.drive.specs.Places.{LentDisc}
-use Rattle.drive.specs.Moves.{Moved, moved, moveHouse}
-use Rattle.drive.specs.Feeds.{Writing, writing, feedByte, feedBytes, feedOf}
-use Rattle.drive.specs.Pulls.{Pulled, pulled, pullOf}
+use Rattle.house.specs.World.{World}
+use Rattle.house.specs.House.{firstRefusal, insertTests, ejectTests, moveHouse, commandHouse}
+use Rattle.house.specs.Theorems.{Ready}
+use Rattle.commands.specs.declared.EventReply.{EventReply}
+use Rattle.commands.specs.declared.CommandReply.{CommandReply}
+use Rattle.commands.specs.Events.{Happened, happened, insertOf, ejectOf}
+use Rattle.commands.specs.Commands.{Commanded, commanded, commandOf}
+use Rattle.moves.specs.declared.MoveReply.{MoveReply}
+use Rattle.moves.specs.Places.{LentDisc}
+use Rattle.moves.specs.Moves.{Moved, moved}
+use Rattle.moves.specs.Feeds.{Writing, writing, feedByte, feedBytes, feedOf}
+use Rattle.moves.specs.Pulls.{Pulled, pulled, pullOf}
 
 -- ---- "Every call keeps soundness."
 
@@ -52,12 +53,6 @@ FeedKeeps = (w : World) (piece : List ℕ) → soundB (w .state) ≡ true → so
 
 abbrev pub PullKeeps : Type 0
 PullKeeps = (w : World) (out : List ℕ) → soundB (w .state) ≡ true → soundB (pullOf w out .moved .world .state) ≡ true
-
--- a sound state with the right buffers
-pub record Ready (w : World) : Type 0 where
-  pub sound : soundB (w .state) ≡ true
-  pub buffer : length (w .buffer) ≡ bufferBytes
-  pub disc : length (w .disc) ≡ discBytes (w .state .disc)
 
 -- a call that is no event, with what is lent for it: a packet, a piece, the caller's buffer
 pub data Call : Type 0 where
@@ -157,40 +152,6 @@ PullRefuses =
     → let house = moveHouse w in
     Refuses house (λ (p : Pulled). p .moved .house) (pullOf w out)
     (record { moved = record { house = house; count = 0; world = w }; out = out })
-
--- an insertion is admitted exactly with no disc in, a number from 1 to 4 and a disc of its length
-pub record Insertable (s : State) (number : ℕ) (disc : List ℕ) : Type 0 where
-  pub sound : soundB s ≡ true
-  pub none : s .disc ≡ 0
-  pub low : 1 ≤ number
-  pub high : number ≤ 4
-  pub whole : length disc ≡ discBytes number
-
-abbrev pub InsertAdmits : Type 0
-InsertAdmits =
-    (s : State) (number : ℕ) (disc : List ℕ)
-    → let house = firstRefusal (insertTests s number (length disc)) in
-    (house ≡ 0 → Insertable s number disc) × (Insertable s number disc → house ≡ 0)
-
--- an ejection exactly with a disc in
-pub record Ejectable (s : State) : Type 0 where
-  pub sound : soundB s ≡ true
-  pub is-in : s .disc ≡ 0 → ⊥
-
-abbrev pub EjectAdmits : Type 0
-EjectAdmits =
-    (s : State)
-    → let house = firstRefusal (ejectTests s) in
-    (house ≡ 0 → Ejectable s) × (Ejectable s → house ≡ 0)
-
--- a feed or a pull exactly in a ready world
-abbrev pub Admits : Type 0
-Admits = (w : World) → (moveHouse w ≡ 0 → Ready w) × (Ready w → moveHouse w ≡ 0)
-
--- and a command exactly if its packet has 12 bytes too
-abbrev pub CommandAdmits : Type 0
-CommandAdmits =
-    (w : World) (p : List ℕ) → (commandHouse w p ≡ 0 → (length p ≡ 12) × Ready w) × (length p ≡ 12 → Ready w → commandHouse w p ≡ 0)
 
 -- ---- "Hence at any cut a block on the disc is all old or all new."
 

@@ -1,0 +1,69 @@
+use mathlib.Core.Path.{_≡_, ap}
+use borrow.Author.Needs.{needs}
+use Rattle.packet.specs.Fields.{addressOf, lengthOf}
+use Rattle.commands.specs.Commands.{spanOf, answeredOf, performedOf}
+use Rattle.commands.proofs.performed.Statement.{statement}
+use Rattle.commands.proofs.performed.Tie as tie
+
+returns : tie.Need-returns
+unfolding performedOf
+returns c = rw (c .before .enum-told .given .1, c .passed .ensures)
+
+returns-2 : tie.Need-returns-2
+unfolding performedOf
+returns-2 c = rw (c .before .before .enum-told2 .given .1, c .passed2 .ensures, c .before .byte .ensures)
+
+returns-3 : tie.Need-returns-3
+unfolding performedOf
+returns-3 c =
+    let give = c .before .before .before in
+    let byte = give .before .before in
+    let routine = byte .before .before in
+    let length = routine .before .before .before .before in
+    rw (routine .routine .given .1, c .passed3 .ensures, ← byte .byte2 .ensures, ← length .length .ensures)
+    (ap (answeredOf (length .before .before .before .args .state)) (give .give .ensures))
+
+spanned : (c : tie.After-span)
+    → let x = c .before .before .before .before .before .args in
+    c .span .result ≡ spanOf (x .state .disc) (addressOf (x .packet .now)) (lengthOf (x .rule .length) (x .packet .now))
+spanned c = rw (c .span .ensures, c .before .address .ensures, c .before .before .length .ensures)
+
+returns-4 : tie.Need-returns-4
+unfolding performedOf
+returns-4 c =
+    let told = c .before in
+    rw (told .enum-told3 .given .1, c .passed4 .ensures, spanned (told .before .before))
+
+returns-5 : tie.Need-returns-5
+unfolding performedOf
+returns-5 c =
+    let told = c .before in
+    rw (told .enum-told4 .given .1, c .passed5 .ensures, spanned (told .before .before))
+
+pub performed-spec : {M : Type 1} → statement M
+performed-spec =
+    tie.close
+    (tie.spec
+    (λ _ _. tt)
+    (λ _ _. tt)
+    (λ _ _. tt)
+    (λ c. search needs)
+    (λ _ _. tt)
+    (λ c. search needs)
+    (λ _ _. tt)
+    (λ _ _. tt)
+    (λ c. search needs)
+    (λ _ _. tt)
+    (λ c. search needs)
+    (λ _ _. tt)
+    (λ _ _. tt)
+    (λ c. search needs)
+    (λ _ _. tt)
+    (λ c. search needs)
+    (λ _ _. tt)
+    returns
+    returns-2
+    (λ c. search needs)
+    returns-3
+    returns-4
+    returns-5)

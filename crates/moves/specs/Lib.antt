@@ -1,0 +1,4 @@
+pub mod Places
+pub mod Moves
+pub mod Feeds
+pub mod Pulls
