@@ -11,12 +11,12 @@ use Rattle.state.specs.declared.DiscAt.{DiscAt}
 use Rattle.state.specs.declared.Transfer.{Transfer}
 use Rattle.state.specs.declared.Transfer.the-variants.{Closed, Answer as AnswerFrom, Read as ReadFrom, Write as WriteTo}
 use Rattle.packet.specs.Fields.{byteAt, addressOf, lengthOf}
-use Rattle.packet.specs.Checks.{verdict}
 use Rattle.packet.specs.declared.Rule.{Rule}
-use Rattle.packet.specs.declared.Verdict.{Verdict}
-use Rattle.packet.specs.declared.Verdict.the-variants.{Passes, Fails}
 use Rattle.packet.specs.declared.Routine.{Routine}
 use Rattle.packet.specs.declared.Routine.the-variants.{Nothing, Motor, Answer, Read, Write}
+use Rattle.checks.specs.Checks.{verdict}
+use Rattle.checks.specs.declared.Verdict.{Verdict}
+use Rattle.checks.specs.declared.Verdict.the-variants.{Passes, Fails}
 use Rattle.answer.specs.Filling.{Filled}
 use Rattle.answer.specs.Giving.{giveOf}
 use Rattle.house.specs.World.{World, world}

@@ -7,11 +7,11 @@ ghost use Rattle.house.specs.World.{world};
 ghost use Rattle.house.specs.House.{numberOf};
 ghost use Rattle.commands.specs.Events.{happened, unlessRefused, insertOf, ejectOf};
 ghost use Rattle.commands.specs.Commands.{spanOf, after, performedOf, commanded, commandOf};
+use checks::Verdict;
 use disc::BlockAddress;
 use house::House;
 use packet::Routine;
 use packet::Rule;
-use packet::Verdict;
 use state::AnswerAt;
 use state::DiscAt;
 use state::State;
@@ -110,7 +110,7 @@ pub fn command(state: State, packet: &[u8], buffer: &mut [u8], disc: &[u8]) -> C
             state: state,
         };
     }
-    let verdict = packet::judge(state, packet);
+    let verdict = checks::judge(state, packet);
     match verdict {
         Verdict::Fails(failure) => {
             let next = state::failed(state, failure);

@@ -10,9 +10,9 @@ use Rattle.disc.specs.Formats.{formatOf, blockBytes, runBytes, discBytes}
 use Rattle.state.specs.declared.Transfer.{Transfer}
 use Rattle.state.specs.declared.Transfer.the-variants.{Closed, Answer, Read, Write}
 use Rattle.state.specs.States.{leftOf, closedAtZero, insertedOf, ejectedOf}
-use Rattle.state.specs.Sound.{openSoundB, soundB}
-use Rattle.state.proofs.Keeps.{parts}
-use Rattle.state.proofs.Transfers.{on-disc, writes}
+use Rattle.sound.specs.Sound.{openSoundB, soundB}
+use Rattle.sound.proofs.Keeps.{parts}
+use Rattle.sound.proofs.Transfers.{on-disc, writes}
 use Rattle.house.specs.World.{World, world}
 use Rattle.house.proofs.Houses.{insert-admits}
 use Rattle.moves.specs.Feeds.{writing}

@@ -16,19 +16,19 @@ use Rattle.disc.proofs.Truth.{neither}
 use Rattle.state.specs.declared.State.{State}
 use Rattle.packet.specs.Fields.{byteAt, addressOf, lengthOf}
 use Rattle.packet.specs.Rules.{rules, ruleOf}
-use Rattle.packet.specs.Checks.{otherUnitB, bitsB, belowB, inMaskB, failsB, failing, checksOf, firstOf, verdict}
 use Rattle.packet.specs.declared.Field.{Field}
 use Rattle.packet.specs.declared.Field.the-variants.{Nowhere, Byte4, Bytes7To8, Bytes6To9}
 use Rattle.packet.specs.declared.Values.{Values}
 use Rattle.packet.specs.declared.Values.the-variants.{Any, ZeroBits, Page}
 use Rattle.packet.specs.declared.Rule.{Rule}
 use Rattle.packet.specs.declared.Known.the-variants.{Base}
-use Rattle.packet.specs.declared.Verdict.{Verdict}
-use Rattle.packet.specs.declared.Verdict.the-variants.{Passes, Fails}
-use Rattle.packet.proofs.Below.{one-fails}
 use Rattle.packet.proofs.First.{none-failed}
-use Rattle.packet.proofs.Passing.{passesB, passing}
 use Rattle.packet.proofs.Table.{all, of-base, opensB}
+use Rattle.checks.specs.Checks.{otherUnitB, bitsB, belowB, inMaskB, failsB, failing, checksOf, firstOf, verdict}
+use Rattle.checks.specs.declared.Verdict.{Verdict}
+use Rattle.checks.specs.declared.Verdict.the-variants.{Passes, Fails}
+use Rattle.checks.proofs.Below.{one-fails}
+use Rattle.checks.proofs.Passing.{passesB, passing}
 use Rattle.house.specs.World.{World}
 use Rattle.house.specs.House.{commandHouse}
 use Rattle.house.proofs.Houses.{noneB, was-ready}

@@ -11,14 +11,14 @@ use Rattle.state.specs.declared.Failure.the-variants.{Pending, Found}
 use Rattle.state.specs.States.{insertedOf, ejectedOf, failedOf}
 use Rattle.packet.specs.Fields.{byteAt}
 use Rattle.packet.specs.Rules.{ruleOf}
-use Rattle.packet.specs.Checks.{failsB, failing, checksOf, verdict}
 use Rattle.packet.specs.declared.Known.{Known}
 use Rattle.packet.specs.declared.Known.the-variants.{Unknown, Base}
-use Rattle.packet.specs.declared.Verdict.{Verdict}
-use Rattle.packet.specs.declared.Verdict.the-variants.{Passes, Fails}
 use Rattle.packet.proofs.First.{none-failed}
-use Rattle.packet.proofs.Passing.{passesB}
 use Rattle.packet.proofs.Table.{freeB, attended}
+use Rattle.checks.specs.Checks.{failsB, failing, checksOf, verdict}
+use Rattle.checks.specs.declared.Verdict.{Verdict}
+use Rattle.checks.specs.declared.Verdict.the-variants.{Passes, Fails}
+use Rattle.checks.proofs.Passing.{passesB}
 use Rattle.house.specs.World.{World}
 use Rattle.house.proofs.Houses.{admits}
 use Rattle.commands.specs.Commands.{obeyedOf}

@@ -12,10 +12,10 @@ use Rattle.state.specs.declared.State.{State}
 use Rattle.state.specs.declared.Transfer.the-variants.{Closed}
 use Rattle.state.specs.Senses.{senseOf, sameB}
 use Rattle.state.specs.States.{failedOf}
-use Rattle.state.specs.Sound.{soundB}
-use Rattle.packet.specs.declared.Verdict.{Verdict}
-use Rattle.packet.specs.declared.Verdict.the-variants.{Passes, Fails}
-use Rattle.packet.specs.Checks.{verdict}
+use Rattle.sound.specs.Sound.{soundB}
+use Rattle.checks.specs.declared.Verdict.{Verdict}
+use Rattle.checks.specs.declared.Verdict.the-variants.{Passes, Fails}
+use Rattle.checks.specs.Checks.{verdict}
 use Rattle.house.specs.World.{World}
 use Rattle.house.specs.Theorems.{Ready}
 use Rattle.house.proofs.Houses.{command-admits}

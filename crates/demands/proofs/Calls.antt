@@ -7,8 +7,8 @@ use borrow.Author.Tests.{eqb-true, eqb-false}
 use lib.Dec.{eqb}
 use lib.ListN.{length}
 use Rattle.state.specs.States.{insertedOf, ejectedOf}
-use Rattle.state.specs.Sound.{soundB}
-use Rattle.packet.specs.Checks.{verdict}
+use Rattle.sound.specs.Sound.{soundB}
+use Rattle.checks.specs.Checks.{verdict}
 use Rattle.house.specs.World.{World, world}
 use Rattle.house.specs.House.{insertTests, ejectTests, lentTests, commandTests}
 use Rattle.house.proofs.Houses.{command-admits}

@@ -13,12 +13,12 @@ use Rattle.state.specs.declared.State.{State}
 use Rattle.state.specs.declared.Transfer.the-variants.{Closed}
 use Rattle.packet.specs.Fields.{byteAt, addressOf, lengthOf}
 use Rattle.packet.specs.Rules.{rules, ruleOf}
-use Rattle.packet.specs.Checks.{checksOf, verdict}
 use Rattle.packet.specs.declared.Known.the-variants.{Base}
 use Rattle.packet.specs.declared.Routine.{Routine}
 use Rattle.packet.specs.declared.Routine.the-variants.{Nothing, Motor, Answer, Read, Write}
 use Rattle.packet.specs.declared.Rule.{Rule}
 use Rattle.packet.proofs.Table.{of-base, opensB, writesB}
+use Rattle.checks.specs.Checks.{checksOf, verdict}
 use Rattle.house.specs.World.{World, world}
 use Rattle.house.specs.Theorems.{Ready}
 use Rattle.commands.specs.Commands.{after, spanOf, routineOf, performedOf, Commanded, commandOf}

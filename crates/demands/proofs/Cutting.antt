@@ -8,11 +8,11 @@ use native.Mathlib.Nat.{zero-add, add-assoc}
 use native.Mathlib.Omega.{arith}
 use borrow.Author.Tests.{ne-eqb}
 use Rattle.state.specs.States.{closedAtZero, movedOf}
-use Rattle.state.specs.Sound.{openSoundB}
 use Rattle.state.specs.declared.Transfer.{Transfer}
 use Rattle.state.specs.declared.Transfer.the-variants.{Closed, Answer, Read, Write}
-use Rattle.state.proofs.Keeps.{parts}
-use Rattle.state.proofs.Transfers.{in-buffer, on-disc, writes}
+use Rattle.sound.specs.Sound.{openSoundB}
+use Rattle.sound.proofs.Keeps.{parts}
+use Rattle.sound.proofs.Transfers.{in-buffer, on-disc, writes}
 use Rattle.house.specs.World.{World}
 use Rattle.house.specs.Theorems.{Ready}
 use Rattle.moves.proofs.Entering.{feeds as fed, pulls as pulled}

@@ -10,25 +10,25 @@ use lib.ListN.{length}
 use Rattle.disc.specs.Formats.{blockBytes}
 use Rattle.state.specs.Senses.{noSense, senseOf}
 use Rattle.state.specs.States.{senseAfter, insertedOf, ejectedOf, passedOf}
-use Rattle.state.specs.Sound.{openSoundB, soundB}
 use Rattle.state.specs.declared.Sense.{Sense}
 use Rattle.state.specs.declared.State.{State}
 use Rattle.state.specs.declared.Fault.the-variants.{NoDisc}
 use Rattle.state.specs.declared.Failure.the-variants.{Found}
 use Rattle.state.specs.declared.Transfer.{Transfer}
 use Rattle.state.specs.declared.Transfer.the-variants.{Closed, Answer, Read, Write}
-use Rattle.state.proofs.Keeps.{parts}
-use Rattle.state.proofs.Transfers.{in-buffer, on-disc, writes}
+use Rattle.sound.specs.Sound.{openSoundB, soundB}
+use Rattle.sound.proofs.Keeps.{parts}
+use Rattle.sound.proofs.Transfers.{in-buffer, on-disc, writes}
 use Rattle.packet.specs.Fields.{byteAt, lengthOf}
 use Rattle.packet.specs.declared.Rule.{Rule}
 use Rattle.packet.specs.declared.Routine.{Routine}
 use Rattle.packet.specs.declared.Routine.the-variants.{Nothing, Motor, Answer as Give, Read as Reads, Write as Writes}
-use Rattle.packet.specs.declared.Verdict.{Verdict}
-use Rattle.packet.specs.declared.Verdict.the-variants.{Passes, Fails}
 use Rattle.packet.specs.Rules.{ruleOf}
-use Rattle.packet.specs.Checks.{checksOf, verdictOf, verdict}
 use Rattle.packet.specs.declared.Known.{Known}
 use Rattle.packet.specs.declared.Known.the-variants.{Unknown, Base}
+use Rattle.checks.specs.declared.Verdict.{Verdict}
+use Rattle.checks.specs.declared.Verdict.the-variants.{Passes, Fails}
+use Rattle.checks.specs.Checks.{checksOf, verdictOf, verdict}
 use Rattle.house.specs.World.{World, world}
 use Rattle.house.proofs.Houses.{admits}
 use Rattle.commands.specs.Commands.{routineOf, performedOf, obeyedOf}

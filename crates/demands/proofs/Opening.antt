@@ -17,22 +17,22 @@ use Rattle.state.specs.declared.Transfer.{Transfer}
 use Rattle.state.specs.declared.Transfer.the-variants.{Closed, Answer as AnswerFrom, Read as ReadFrom, Write as WriteTo}
 use Rattle.state.specs.Senses.{noSense}
 use Rattle.state.specs.States.{failedOf, passedOf}
-use Rattle.state.proofs.Keeps.{parts, failed-disc}
 use Rattle.state.specs.declared.Failure.{Failure}
+use Rattle.sound.proofs.Keeps.{parts, failed-disc}
 use Rattle.packet.specs.Fields.{byteAt, addressOf, lengthOf}
 use Rattle.packet.specs.Rules.{ruleOf}
-use Rattle.packet.specs.Checks.{verdictOf, verdict}
 use Rattle.packet.specs.declared.Rule.{Rule}
 use Rattle.packet.specs.declared.Known.{Known}
 use Rattle.packet.specs.declared.Known.the-variants.{Unknown, Base}
-use Rattle.packet.specs.declared.Verdict.{Verdict}
-use Rattle.packet.specs.declared.Verdict.the-variants.{Passes, Fails}
-use Rattle.packet.proofs.Passing.{passesB, Held, passing}
 use Rattle.packet.specs.declared.Answering.{Answering}
 use Rattle.packet.specs.declared.Answering.the-variants.{Sense, Inquiry, FormatCapacities, Capacity, Mode}
 use Rattle.packet.specs.declared.Routine.{Routine}
 use Rattle.packet.proofs.Table.{opensB, guarded}
 use Rattle.packet.specs.declared.Routine.the-variants.{Nothing, Motor, Answer, Read, Write}
+use Rattle.checks.specs.Checks.{verdictOf, verdict}
+use Rattle.checks.specs.declared.Verdict.{Verdict}
+use Rattle.checks.specs.declared.Verdict.the-variants.{Passes, Fails}
+use Rattle.checks.proofs.Passing.{passesB, Held, passing}
 use Rattle.answer.specs.Answers.{senseData, inquiryData, capacityData, withDiscData, withoutDiscData, capacitiesData, modeData}
 use Rattle.answer.specs.Giving.{answerOf, allocationOf, giveOf}
 use Rattle.answer.proofs.Lengths.{give-count, give-length}

@@ -13,10 +13,10 @@ use Rattle.state.specs.declared.Transfer.{Transfer}
 use Rattle.state.specs.declared.Transfer.the-variants.{Closed, Read, Write}
 use Rattle.state.specs.Senses.{triple, noSense, namedB}
 use Rattle.state.specs.States.{stateOf, powerOn, insertedOf, failedOf, passedOf, movedOf}
-use Rattle.state.specs.Sound.{onDiscB, endsOnBlockB, openSoundB, soundB}
+use Rattle.sound.specs.Sound.{onDiscB, endsOnBlockB, openSoundB, soundB}
 use Rattle.packet.specs.Fields.{addressOf, lengthOf}
 use Rattle.packet.specs.Rules.{rules, ruleOf}
-use Rattle.packet.specs.Checks.{inMaskB, checksOf, verdict}
+use Rattle.checks.specs.Checks.{inMaskB, checksOf, verdict}
 use Rattle.answer.specs.Answers.{inquiryData}
 use Rattle.answer.specs.Giving.{answerOf, allocationOf, giveOf}
 use Rattle.house.specs.World.{World, world}

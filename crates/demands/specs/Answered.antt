@@ -8,10 +8,10 @@ use Rattle.state.specs.declared.Sense.{Sense}
 use Rattle.state.specs.declared.Transfer.the-variants.{Closed}
 use Rattle.state.specs.Senses.{noSense, senseOf}
 use Rattle.state.specs.States.{powerOn}
-use Rattle.state.specs.Sound.{soundB}
-use Rattle.packet.specs.declared.Verdict.{Verdict}
-use Rattle.packet.specs.declared.Verdict.the-variants.{Passes, Fails}
-use Rattle.packet.specs.Checks.{verdict}
+use Rattle.sound.specs.Sound.{soundB}
+use Rattle.checks.specs.declared.Verdict.{Verdict}
+use Rattle.checks.specs.declared.Verdict.the-variants.{Passes, Fails}
+use Rattle.checks.specs.Checks.{verdict}
 use Rattle.house.specs.World.{World}
 use Rattle.house.specs.House.{firstRefusal, insertTests, ejectTests, commandHouse, moveHouse}
 use Rattle.house.specs.Theorems.{Ready}

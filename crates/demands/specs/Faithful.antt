@@ -9,7 +9,7 @@ use lib.Dec.{eqb}
 use lib.ListN.{length, take, drop}
 use Rattle.state.specs.Senses.{triple, sameB}
 use Rattle.packet.specs.Fields.{byteAt}
-use Rattle.packet.specs.Checks.{verdict}
+use Rattle.checks.specs.Checks.{verdict}
 use Rattle.house.specs.World.{World, world}
 use Rattle.demands.specs.Device.{Call, Insert, Eject, Command, Feed, Pull, Heard, heard, Device, after}
 use Rattle.demands.specs.Answered.{houseOf, lentFor, judgedOf}

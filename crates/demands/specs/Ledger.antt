@@ -12,11 +12,11 @@ use Rattle.state.specs.Senses.{triple, noSense, sameB}
 use Rattle.state.specs.States.{stateOf}
 use Rattle.packet.specs.Fields.{byteAt, addressOf, lengthOf}
 use Rattle.packet.specs.Rules.{ruleOf}
-use Rattle.packet.specs.Checks.{verdict}
 use Rattle.packet.specs.declared.Known.{Known}
 use Rattle.packet.specs.declared.Known.the-variants.{Unknown, Base}
 use Rattle.packet.specs.declared.Routine.{Routine}
 use Rattle.packet.specs.declared.Routine.the-variants.{Nothing, Motor, Answer, Read, Write}
+use Rattle.checks.specs.Checks.{verdict}
 use Rattle.answer.specs.Giving.{answerOf, allocationOf}
 use Rattle.house.specs.World.{World, world}
 use Rattle.demands.specs.Device.{Call, Insert, Eject, Command, Feed, Pull, Heard, heard}

@@ -12,10 +12,10 @@ use Rattle.state.specs.declared.State.{State}
 use Rattle.state.specs.declared.Transfer.the-variants.{Write}
 use Rattle.state.specs.Senses.{noSense, namedB}
 use Rattle.state.specs.States.{withTransfer, failedOf, passedOf, movedOf}
-use Rattle.state.specs.Sound.{onDiscB, endsOnBlockB, openSoundB, soundB}
+use Rattle.sound.specs.Sound.{onDiscB, endsOnBlockB, openSoundB, soundB}
 use Rattle.packet.specs.Fields.{addressOf, lengthOf}
 use Rattle.packet.specs.Rules.{rules, ruleOf}
-use Rattle.packet.specs.Checks.{inMaskB, checksOf, verdict}
+use Rattle.checks.specs.Checks.{inMaskB, checksOf, verdict}
 use Rattle.answer.specs.Answers.{senseData, inquiryData}
 use Rattle.answer.specs.Giving.{answerOf, allocationOf, giveOf}
 use Rattle.house.specs.World.{world}

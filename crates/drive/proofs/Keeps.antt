@@ -13,22 +13,22 @@ use Rattle.disc.specs.declared.BlockAddress.{BlockAddress}
 use Rattle.disc.proofs.Truth.{neither, implies}
 use Rattle.state.specs.States.{insertedOf, ejectedOf}
 use Rattle.state.specs.Senses.{namedB}
-use Rattle.state.specs.Sound.{onDiscB, endsOnBlockB, openSoundB, soundB}
 use Rattle.state.specs.declared.State.{State}
 use Rattle.state.specs.declared.Transfer.the-variants.{Closed, Answer as AnswerFrom, Read as ReadFrom, Write as WriteTo}
-use Rattle.state.proofs.Keeps.{failed-sound, passed-sound, inserted-sound, ejected-sound}
+use Rattle.sound.specs.Sound.{onDiscB, endsOnBlockB, openSoundB, soundB}
+use Rattle.sound.proofs.Keeps.{failed-sound, passed-sound, inserted-sound, ejected-sound}
 use Rattle.packet.specs.Fields.{byteAt, addressOf, lengthOf}
 use Rattle.packet.specs.Rules.{ruleOf}
-use Rattle.packet.specs.Checks.{pastEndB, checksOf, firstOf, verdictOf, verdict}
 use Rattle.packet.specs.declared.Rule.{Rule}
 use Rattle.packet.specs.declared.Known.{Known}
 use Rattle.packet.specs.declared.Known.the-variants.{Unknown, Base}
-use Rattle.packet.specs.declared.Verdict.{Verdict}
-use Rattle.packet.specs.declared.Verdict.the-variants.{Passes, Fails}
 use Rattle.packet.specs.declared.Routine.{Routine}
 use Rattle.packet.specs.declared.Routine.the-variants.{Nothing, Motor, Answer, Read, Write}
-use Rattle.packet.proofs.Passing.{passesB, passing}
 use Rattle.packet.proofs.Table.{opensB, writesB, guarded}
+use Rattle.checks.specs.Checks.{pastEndB, checksOf, firstOf, verdictOf, verdict}
+use Rattle.checks.specs.declared.Verdict.{Verdict}
+use Rattle.checks.specs.declared.Verdict.the-variants.{Passes, Fails}
+use Rattle.checks.proofs.Passing.{passesB, passing}
 use Rattle.answer.specs.Giving.{giveOf}
 use Rattle.answer.proofs.Lengths.{give-count}
 use Rattle.house.specs.House.{firstRefusal, insertTests, ejectTests, commandHouse}

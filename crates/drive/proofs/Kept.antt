@@ -9,19 +9,19 @@ use lib.ListN.{length, take}
 use lib.Seq.{length-take-le}
 use Rattle.disc.specs.Formats.{formatOf, blockBytes, runBytes, discBytes}
 use Rattle.disc.proofs.Table.{block-fits, block-holds}
-use Rattle.state.specs.Sound.{soundB}
 use Rattle.state.specs.States.{insertedOf, ejectedOf, failedOf, passedOf, movedOf}
 use Rattle.state.specs.declared.Failure.{Failure}
 use Rattle.state.specs.declared.Failure.the-variants.{Pending, Found}
 use Rattle.state.specs.declared.Transfer.{Transfer}
 use Rattle.state.specs.declared.Transfer.the-variants.{Closed, Answer as AnswerFrom, Read as ReadFrom, Write as WriteTo}
-use Rattle.state.proofs.Keeps.{failed-disc, inserted-sound, ejected-sound}
+use Rattle.sound.specs.Sound.{soundB}
+use Rattle.sound.proofs.Keeps.{failed-disc, inserted-sound, ejected-sound}
 use Rattle.packet.specs.Fields.{byteAt, lengthOf}
-use Rattle.packet.specs.Checks.{verdict}
-use Rattle.packet.specs.declared.Verdict.{Verdict}
-use Rattle.packet.specs.declared.Verdict.the-variants.{Passes, Fails}
 use Rattle.packet.specs.declared.Routine.{Routine}
 use Rattle.packet.specs.declared.Routine.the-variants.{Nothing, Motor, Answer, Read, Write}
+use Rattle.checks.specs.Checks.{verdict}
+use Rattle.checks.specs.declared.Verdict.{Verdict}
+use Rattle.checks.specs.declared.Verdict.the-variants.{Passes, Fails}
 use Rattle.answer.proofs.Lengths.{give-length}
 use Rattle.house.specs.World.{World, world}
 use Rattle.house.specs.House.{firstRefusal, insertTests, ejectTests, commandHouse}

@@ -11,9 +11,9 @@ use Rattle.state.specs.declared.DiscAt.{DiscAt}
 use Rattle.state.specs.declared.Transfer.{Transfer}
 use Rattle.state.specs.declared.Transfer.the-variants.{Closed, Answer, Read, Write}
 use Rattle.state.specs.States.{movedOf}
-use Rattle.state.specs.Sound.{openSoundB, soundB}
-use Rattle.state.proofs.Keeps.{parts, moved-sound}
-use Rattle.state.proofs.Transfers.{OnDisc, EndsOnBlock, in-buffer, answer-sound, on-disc, on-disc-sound, writes, writes-sound}
+use Rattle.sound.specs.Sound.{openSoundB, soundB}
+use Rattle.sound.proofs.Keeps.{parts, moved-sound}
+use Rattle.sound.proofs.Transfers.{OnDisc, EndsOnBlock, in-buffer, answer-sound, on-disc, on-disc-sound, writes, writes-sound}
 use Rattle.house.specs.World.{World}
 use Rattle.house.specs.House.{moveHouse}
 use Rattle.house.proofs.Houses.{noneB}

@@ -15,14 +15,14 @@ use Rattle.state.specs.declared.Failure.{Failure}
 use Rattle.state.specs.declared.Failure.the-variants.{Pending}
 use Rattle.packet.specs.Fields.{byteAt}
 use Rattle.packet.specs.Rules.{ruleOf}
-use Rattle.packet.specs.Checks.{otherUnitB, firstOf, checksOf, verdict}
-use Rattle.packet.specs.declared.Check.{Check}
 use Rattle.packet.specs.declared.Rule.{Rule}
 use Rattle.packet.specs.declared.Known.{Known}
 use Rattle.packet.specs.declared.Known.the-variants.{Unknown, Base}
-use Rattle.packet.specs.declared.Verdict.{Verdict}
-use Rattle.packet.specs.declared.Verdict.the-variants.{Fails}
 use Rattle.packet.proofs.Table.{freeB, attended}
+use Rattle.checks.specs.Checks.{otherUnitB, firstOf, checksOf, verdict}
+use Rattle.checks.specs.declared.Check.{Check}
+use Rattle.checks.specs.declared.Verdict.{Verdict}
+use Rattle.checks.specs.declared.Verdict.the-variants.{Fails}
 use Rattle.house.specs.World.{World, world}
 use Rattle.house.specs.House.{commandHouse}
 use Rattle.house.specs.Theorems.{Ready}

@@ -9,9 +9,9 @@ use lib.ListN.{length}
 use Rattle.state.specs.declared.Transfer.{Transfer}
 use Rattle.state.specs.declared.Transfer.the-variants.{Closed, Answer, Read, Write}
 use Rattle.state.specs.States.{insertedOf, ejectedOf}
-use Rattle.packet.specs.declared.Verdict.{Verdict}
-use Rattle.packet.specs.declared.Verdict.the-variants.{Passes, Fails}
-use Rattle.packet.specs.Checks.{verdict}
+use Rattle.checks.specs.declared.Verdict.{Verdict}
+use Rattle.checks.specs.declared.Verdict.the-variants.{Passes, Fails}
+use Rattle.checks.specs.Checks.{verdict}
 use Rattle.house.specs.World.{World, world}
 use Rattle.house.specs.House.{firstRefusal, insertTests, ejectTests, commandHouse, moveHouse}
 use Rattle.commands.specs.Events.{Happened, event, insertOf, ejectOf}

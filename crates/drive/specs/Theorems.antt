@@ -14,12 +14,12 @@ use Rattle.state.specs.declared.Attention.the-variants.{Change}
 use Rattle.state.specs.declared.Failure.the-variants.{Pending}
 use Rattle.state.specs.Senses.{senseOf, sameB}
 use Rattle.state.specs.States.{powerOn}
-use Rattle.state.specs.Sound.{soundB}
+use Rattle.sound.specs.Sound.{soundB}
 use Rattle.packet.specs.Fields.{byteAt}
 use Rattle.packet.specs.Rules.{ruleOf}
-use Rattle.packet.specs.Checks.{otherUnitB}
 use Rattle.packet.specs.declared.Known.{Known}
 use Rattle.packet.specs.declared.Known.the-variants.{Unknown, Base}
+use Rattle.checks.specs.Checks.{otherUnitB}
 use Rattle.house.specs.World.{World}
 use Rattle.house.specs.House.{firstRefusal, insertTests, ejectTests, moveHouse, commandHouse}
 use Rattle.house.specs.Theorems.{Ready}

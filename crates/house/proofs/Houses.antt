@@ -10,7 +10,7 @@ use lib.ListN.{length, getD}
 use Rattle.disc.specs.Formats.{bufferBytes, discBytes}
 use Rattle.disc.proofs.Truth.{neither}
 use Rattle.state.specs.declared.State.{State}
-use Rattle.state.specs.Sound.{soundB}
+use Rattle.sound.specs.Sound.{soundB}
 use Rattle.packet.proofs.First.{NoneFails, none-failed, barredB}
 use Rattle.house.specs.declared.House.{House}
 use Rattle.house.specs.declared.House.the-variants.{Accepted, PacketLength, Unsound, BufferLength, DiscLength, DiscIn, NoDiscIn, NoSuchDisc}

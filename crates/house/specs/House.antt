@@ -6,7 +6,7 @@ use lib.Dec.{eqb, ltb}
 use lib.ListN.{length}
 use Rattle.disc.specs.Formats.{bufferBytes, discBytes}
 use Rattle.state.specs.declared.State.{State}
-use Rattle.state.specs.Sound.{soundB}
+use Rattle.sound.specs.Sound.{soundB}
 use Rattle.packet.specs.First.{first}
 use Rattle.house.specs.World.{World}
 use Rattle.house.specs.declared.Test.{Test}

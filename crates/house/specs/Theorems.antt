@@ -6,7 +6,7 @@ use Prim.Native.Nat.{ℕ, _≤_}
 use lib.ListN.{length}
 use Rattle.disc.specs.Formats.{bufferBytes, discBytes}
 use Rattle.state.specs.declared.State.{State}
-use Rattle.state.specs.Sound.{soundB}
+use Rattle.sound.specs.Sound.{soundB}
 use Rattle.house.specs.declared.House.{House}
 use Rattle.house.specs.World.{World}
 use Rattle.house.specs.House.{numberOf, firstRefusal, insertTests, ejectTests, moveHouse, commandHouse}

@@ -54,7 +54,7 @@ pub fn insert_house(state: State, number: u8, disc: usize) -> House
     ensures { λ r. ⌜ numberOf r ≡ firstRefusal (insertTests state number disc) ⌝ }
 {
     first_refusal([
-        Test(!state::sound(state), House::Unsound),
+        Test(!sound::sound(state), House::Unsound),
         Test(state.disc != 0, House::DiscIn),
         Test((number == 0) | (4 < number), House::NoSuchDisc),
         Test(disc != disc::disc_bytes(number), House::DiscLength),
@@ -65,7 +65,7 @@ pub fn eject_house(state: State) -> House
     ensures { λ r. ⌜ numberOf r ≡ firstRefusal (ejectTests state) ⌝ }
 {
     first_refusal([
-        Test(!state::sound(state), House::Unsound),
+        Test(!sound::sound(state), House::Unsound),
         Test(state.disc == 0, House::NoDiscIn),
         PASSED,
         PASSED,
@@ -77,7 +77,7 @@ pub fn lent_house(state: State, buffer: usize, disc: usize) -> House
     ensures { λ r. ⌜ numberOf r ≡ firstRefusal (lentTests state buffer disc) ⌝ }
 {
     first_refusal([
-        Test(!state::sound(state), House::Unsound),
+        Test(!sound::sound(state), House::Unsound),
         Test(buffer != disc::BUFFER_BYTES, House::BufferLength),
         Test(disc != disc::disc_bytes(state.disc), House::DiscLength),
         PASSED,

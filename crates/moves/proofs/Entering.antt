@@ -10,10 +10,10 @@ use Rattle.state.specs.declared.AnswerAt.{AnswerAt}
 use Rattle.state.specs.declared.DiscAt.{DiscAt}
 use Rattle.state.specs.declared.Transfer.{Transfer}
 use Rattle.state.specs.declared.Transfer.the-variants.{Closed, Answer, Read, Write}
-use Rattle.state.specs.Sound.{openSoundB}
 use Rattle.state.proofs.Transfer.{the-type}
-use Rattle.state.proofs.Keeps.{parts}
-use Rattle.state.proofs.Transfers.{OnDisc, in-buffer, on-disc, writes}
+use Rattle.sound.specs.Sound.{openSoundB}
+use Rattle.sound.proofs.Keeps.{parts}
+use Rattle.sound.proofs.Transfers.{OnDisc, in-buffer, on-disc, writes}
 use Rattle.answer.specs.Filling.{Filled, filled}
 use Rattle.house.specs.World.{World}
 use Rattle.house.specs.Theorems.{Ready}

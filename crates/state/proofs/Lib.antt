@@ -1,3 +1,1 @@
 pub mod Others
-pub mod Keeps
-pub mod Transfers

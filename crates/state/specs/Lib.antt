@@ -1,3 +1,2 @@
 pub mod Senses
 pub mod States
-pub mod Sound

@@ -1,10 +1,7 @@
-// What the drive remembers, what each kind of call makes of it, and the test that it is sound.
+// What the drive remembers, and what each kind of call makes of it.
 ghost use mathlib.Core.Path.{_≡_};
-ghost use Prim.Native.Nat.{_+_};
-ghost use lib.Dec.{leb};
-ghost use Rattle.state.specs.Senses.{senseOf, sameB, namedB};
+ghost use Rattle.state.specs.Senses.{senseOf};
 ghost use Rattle.state.specs.States.{powerOn, withTransfer, leftOf, closedAtZero, insertedOf, senseAfter, ejectedOf, failedOf, passedOf, movedOf};
-ghost use Rattle.state.specs.Sound.{endsOnBlockB, onDiscB, openSoundB, soundB};
 use disc::BytePlace;
 
 // Key, additional code, qualifier.
@@ -12,23 +9,23 @@ pub struct Sense(pub u8, pub u8, pub u8);
 
 pub const NO_SENSE: Sense = Sense(0x00, 0x00, 0x00);
 
-const UNKNOWN_CODE: Sense = Sense(0x05, 0x20, 0x00);
+pub const UNKNOWN_CODE: Sense = Sense(0x05, 0x20, 0x00);
 
-const OTHER_UNIT: Sense = Sense(0x05, 0x25, 0x00);
+pub const OTHER_UNIT: Sense = Sense(0x05, 0x25, 0x00);
 
-const POWER_ON: Sense = Sense(0x06, 0x29, 0x00);
+pub const POWER_ON: Sense = Sense(0x06, 0x29, 0x00);
 
-const CHANGE: Sense = Sense(0x06, 0x28, 0x00);
+pub const CHANGE: Sense = Sense(0x06, 0x28, 0x00);
 
-const NO_DISC: Sense = Sense(0x02, 0x3a, 0x00);
+pub const NO_DISC: Sense = Sense(0x02, 0x3a, 0x00);
 
-const BAD_FIELD: Sense = Sense(0x05, 0x24, 0x00);
+pub const BAD_FIELD: Sense = Sense(0x05, 0x24, 0x00);
 
-const NOT_SAVED: Sense = Sense(0x05, 0x39, 0x00);
+pub const NOT_SAVED: Sense = Sense(0x05, 0x39, 0x00);
 
-const OUT_OF_RANGE: Sense = Sense(0x05, 0x21, 0x00);
+pub const OUT_OF_RANGE: Sense = Sense(0x05, 0x21, 0x00);
 
-const PROTECTED: Sense = Sense(0x07, 0x27, 0x00);
+pub const PROTECTED: Sense = Sense(0x07, 0x27, 0x00);
 
 pub enum Attention {
     PowerOn,
@@ -99,28 +96,6 @@ pub fn sense_of(failure: Failure) -> Sense
             Fault::Protected => PROTECTED,
         },
     }
-}
-
-fn same(a: Sense, b: Sense) -> bool
-    ensures { λ r. ⌜ r ≡ sameB a b ⌝ }
-{
-    (a.0 == b.0) & (a.1 == b.1) & (a.2 == b.2)
-}
-
-// The triple is none, or that of a failure.
-fn named(sense: Sense) -> bool
-    ensures { λ r. ⌜ r ≡ namedB sense ⌝ }
-{
-    same(sense, NO_SENSE)
-        | same(sense, UNKNOWN_CODE)
-        | same(sense, OTHER_UNIT)
-        | same(sense, POWER_ON)
-        | same(sense, CHANGE)
-        | same(sense, NO_DISC)
-        | same(sense, BAD_FIELD)
-        | same(sense, NOT_SAVED)
-        | same(sense, OUT_OF_RANGE)
-        | same(sense, PROTECTED)
 }
 
 pub fn power_on() -> State
@@ -244,57 +219,4 @@ pub fn moved(state: State, transfer: Transfer) -> State
 {
     let sense = state.sense;
     with_transfer(state, sense, closed_at_zero(transfer))
-}
-
-// `at + left <= limit`, with no sum that could wrap.
-fn ends_within(at: usize, left: usize, limit: usize) -> bool
-    ensures { λ r. ⌜ r ≡ leb (at + left) limit ⌝ }
-{
-    if limit < left {
-        return false;
-    }
-    if at <= limit - left {
-        return true;
-    }
-    false
-}
-
-// `at + left` is a multiple of the block length, with no sum that could wrap.
-fn ends_on_block(number: u8, p: DiscAt) -> bool
-    ensures { λ r. ⌜ r ≡ endsOnBlockB number p ⌝ }
-{
-    let block = disc::block_bytes(number);
-    if block == 0 {
-        return false;
-    }
-    (p.at.0 % block + p.left % block) % block == 0
-}
-
-fn on_disc(number: u8, p: DiscAt) -> bool
-    ensures { λ r. ⌜ r ≡ onDiscB number p ⌝ }
-{
-    let full = disc::disc_bytes(number);
-    (number != 0) & (0 < p.left) & ends_within(p.at.0, p.left, full)
-}
-
-fn open_soundly(number: u8, protected: bool, transfer: Transfer) -> bool
-    ensures { λ r. ⌜ r ≡ openSoundB number protected transfer ⌝ }
-{
-    match transfer {
-        Transfer::Closed => true,
-        Transfer::Answer(p) => (0 < p.left) & ends_within(p.at, p.left, disc::BUFFER_BYTES),
-        Transfer::Read(p) => on_disc(number, p),
-        Transfer::Write(p) => on_disc(number, p) & ends_on_block(number, p) & !protected,
-    }
-}
-
-pub fn sound(state: State) -> bool
-    ensures { λ r. ⌜ r ≡ soundB state ⌝ }
-{
-    let sense = state.sense;
-    let transfer = state.transfer;
-    (state.disc <= 4)
-        & ((state.disc != 0) | !state.protected)
-        & named(sense)
-        & open_soundly(state.disc, state.protected, transfer)
 }

@@ -1,0 +1,15 @@
+use borrow.Author.Needs.{needs}
+use Rattle.checks.proofs.bad_control.Statement.{statement}
+use Rattle.checks.proofs.bad_control.Tie as tie
+
+pub bad-control-spec : {M : Type 1} → statement M
+bad-control-spec =
+    tie.close
+    (tie.spec
+    (λ c. search needs)
+    (λ c. search needs)
+    (λ c. search needs)
+    (λ _ _. tt)
+    (λ c. search needs)
+    (λ c. search needs)
+    (λ c. cc))

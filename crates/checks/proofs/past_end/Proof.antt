@@ -1,0 +1,13 @@
+use borrow.Author.Needs.{needs}
+use Rattle.checks.proofs.past_end.Statement.{statement}
+use Rattle.checks.proofs.past_end.Tie as tie
+
+pub past-end-spec : {M : Type 1} → statement M
+past-end-spec =
+    tie.close
+    (tie.spec
+    (λ _ _. tt)
+    (λ c. search needs)
+    (λ c. search needs)
+    (λ c. search needs)
+    (λ c. cc))

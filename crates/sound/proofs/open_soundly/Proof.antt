@@ -1,0 +1,37 @@
+use borrow.Author.Needs.{needs}
+use Rattle.sound.specs.Sound.{openSoundB}
+use Rattle.sound.proofs.open_soundly.Statement.{statement}
+use Rattle.sound.proofs.open_soundly.Tie as tie
+
+returns : tie.Need-returns
+unfolding openSoundB
+returns c = search needs
+
+returns-2 : tie.Need-returns-2
+unfolding openSoundB
+returns-2 c = cc
+
+returns-3 : tie.Need-returns-3
+unfolding openSoundB
+returns-3 c = cc
+
+returns-4 : tie.Need-returns-4
+unfolding openSoundB
+returns-4 c = rw (c .before .before .before .transfer3 .given .1, c .ends-on-block .ensures, c .before .on-disc2 .ensures)
+
+pub open-soundly-spec : {M : Type 1} → statement M
+open-soundly-spec =
+    tie.close
+    (tie.spec
+    (λ c. search needs)
+    (λ c. search needs)
+    (λ _ _. tt)
+    (λ c. search needs)
+    (λ _ _. tt)
+    (λ c. search needs)
+    (λ _ _. tt)
+    (λ _ _. tt)
+    returns
+    returns-2
+    returns-3
+    returns-4)
