@@ -12,4 +12,4 @@ bad-control-spec =
     (λ _ _. tt)
     (λ c. search needs)
     (λ c. search needs)
-    (λ c. cc))
+    (λ c. rw (c .byte .ensures, c .before .enum-told3 .given .1)))

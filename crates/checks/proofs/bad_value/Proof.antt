@@ -12,5 +12,5 @@ bad-value-spec =
     (λ c. search needs)
     (λ _ _. tt)
     (λ c. search needs)
-    (λ c. cc)
-    (λ c. cc))
+    (λ c. rw (c .byte .ensures, c .before .before .values .given .1))
+    (λ c. rw (c .byte2 .ensures, c .before .enum-told2 .given .1)))

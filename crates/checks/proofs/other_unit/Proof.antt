@@ -6,4 +6,4 @@ other-unit-spec =
     tie.close
     (tie.spec
     (λ _ _. tt)
-    (λ c. cc))
+    (λ c. rw (c .byte .ensures)))

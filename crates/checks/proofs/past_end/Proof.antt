@@ -10,4 +10,4 @@ past-end-spec =
     (λ c. search needs)
     (λ c. search needs)
     (λ c. search needs)
-    (λ c. cc))
+    (λ c. rw (c .before .before .format-of .ensures)))

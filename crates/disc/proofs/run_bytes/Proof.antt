@@ -15,7 +15,7 @@ mul-result c =
 
 returns : tie.Need-returns
 unfolding runBytes
-returns c = cc
+returns c = rw (c .block-bytes .ensures)
 
 pub run-bytes-spec : {M : Type 1} → statement M
 run-bytes-spec = tie.close (tie.spec (λ _ _. tt) mul-result returns)

@@ -9,11 +9,11 @@ returns c = search needs
 
 returns-2 : tie.Need-returns-2
 unfolding openSoundB
-returns-2 c = cc
+returns-2 c = rw (c .before .before .before .transfer .given .1, c .ends-within .ensures)
 
 returns-3 : tie.Need-returns-3
 unfolding openSoundB
-returns-3 c = cc
+returns-3 c = rw (c .before .before .transfer2 .given .1, c .on-disc .ensures)
 
 returns-4 : tie.Need-returns-4
 unfolding openSoundB

@@ -4,7 +4,7 @@ use Rattle.sound.proofs.sound.Tie as tie
 
 returns : tie.Need-returns
 unfolding soundB
-returns c = cc
+returns c = rw (c .open-soundly .ensures, c .before .named .ensures)
 
 pub sound-spec : {M : Type 1} → statement M
 sound-spec = tie.close (tie.spec (λ _ _. tt) (λ _ _. tt) returns)
