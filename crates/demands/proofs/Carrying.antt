@@ -26,7 +26,27 @@ use Rattle.commands.proofs.Entering.{let-in}
 use Rattle.drive.specs.Theorems.{Command}
 use Rattle.drive.proofs.Kept.{call-ready}
 use Rattle.demands.specs.Device.{Call, Command as CommandCall, Feed, Pull, Reply, Device, callOf, drive}
-use Rattle.demands.specs.Uncut.{Lent, lent, lendAll, READ, WRITE, isIn, alike, Carried, carried, carry, Part, carryAll, blocksIn, Through, AllThrough, dataOf, dataIn, Cut, Cuttings}
+use Rattle.demands.specs.Uncut.{
+  Lent,
+  lent,
+  lendAll,
+  READ,
+  WRITE,
+  isIn,
+  alike,
+  Carried,
+  carried,
+  carry,
+  Part,
+  carryAll,
+  blocksIn,
+  Through,
+  AllThrough,
+  dataOf,
+  dataIn,
+  Cut,
+  Cuttings,
+}
 use Rattle.demands.proofs.Blocks.{run-add, run-within}
 use Rattle.demands.proofs.Lending.{Bytes, bytes, Kind, Serves, lends, Puts, feeding, Feeds, feed-served, our-feeds, Gives, reading, Pulls, read-served, fromDisc, our-pulls}
 use Rattle.demands.proofs.Cutting.{Way, lent-whole, cut-anywhere, feed-way, pull-way}

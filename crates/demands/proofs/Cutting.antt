@@ -18,7 +18,23 @@ use Rattle.house.specs.Theorems.{Ready}
 use Rattle.moves.proofs.Entering.{feeds as fed, pulls as pulled}
 use Rattle.demands.specs.Device.{Call, Feed, Pull, Device, callOf, drive}
 use Rattle.demands.specs.Uncut.{Lent, lent, lendAll, CutAnywhere}
-use Rattle.demands.proofs.Lending.{lendOne, join, Kind, moving, Serves, unmoved, lends, first-moves, Puts, Feeds, feed-served, Gives, Pulls, read-served, answer-served}
+use Rattle.demands.proofs.Lending.{
+  lendOne,
+  join,
+  Kind,
+  moving,
+  Serves,
+  unmoved,
+  lends,
+  first-moves,
+  Puts,
+  Feeds,
+  feed-served,
+  Gives,
+  Pulls,
+  read-served,
+  answer-served,
+}
 
 -- ---- what a lending finds
 

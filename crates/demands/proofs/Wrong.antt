@@ -16,7 +16,21 @@ use Rattle.demands.specs.Device.{Call, Insert, Command, Feed, Pull, Repl
 use Rattle.demands.specs.Answered.{Judged}
 use Rattle.demands.specs.Ledger.{store, blocksOf, gather, noted}
 use Rattle.demands.specs.Faithful.{someAnswersB, Faithful}
-use Rattle.demands.specs.Wrong.{altered, failsEverything, passesEverything, handsOutZeros, discardsFeeds, firstBlockOnly, firstPullOnly, makesUpCounts, neverReady, versionOne, versionTwo, versionThree, Excluded}
+use Rattle.demands.specs.Wrong.{
+  altered,
+  failsEverything,
+  passesEverything,
+  handsOutZeros,
+  discardsFeeds,
+  firstBlockOnly,
+  firstPullOnly,
+  makesUpCounts,
+  neverReady,
+  versionOne,
+  versionTwo,
+  versionThree,
+  Excluded,
+}
 use Rattle.demands.proofs.Foretelling.{foretold-accepted}
 use Rattle.demands.proofs.Runs.{takes, gives, test, inquiry, empty, inserted, power-told, Starts, Ours, ours, from-reading, from-writing}
 

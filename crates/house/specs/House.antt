@@ -11,7 +11,16 @@ use Rattle.packet.specs.First.{first}
 use Rattle.house.specs.World.{World}
 use Rattle.house.specs.declared.Test.{Test}
 use Rattle.house.specs.declared.House.{House}
-use Rattle.house.specs.declared.House.the-variants.{Accepted, PacketLength, Unsound, BufferLength, DiscLength, DiscIn, NoDiscIn, NoSuchDisc}
+use Rattle.house.specs.declared.House.the-variants.{
+  Accepted,
+  PacketLength,
+  Unsound,
+  BufferLength,
+  DiscLength,
+  DiscIn,
+  NoDiscIn,
+  NoSuchDisc,
+}
 
 -- the column "No.", 0 for none
 abbrev pub numberOf : House → ℕ
