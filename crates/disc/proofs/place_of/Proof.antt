@@ -4,7 +4,7 @@ use Rattle.disc.proofs.place_of.Tie as tie
 
 returns : tie.Need-returns
 unfolding placeOf
-returns c = rw (c .run-bytes .ensures)
+returns c = cc
 
 pub place-of-spec : {M : Type 1} → statement M
 place-of-spec = tie.close (tie.spec (λ _ _. tt) returns)
