@@ -22,7 +22,7 @@ abbrev pub allKeys : List Entry → List ℕ → Bool
 allKeys [] ks = true
 allKeys (e ∷ es) ks = isKey (e .code) ks && allKeys es ks
 
-not-key : (code : ℕ) (ks : List ℕ) → NoneOf code ks → (x : ℕ) → isKey x ks ≡ true → eqb code x ≡ false
+pub not-key : (code : ℕ) (ks : List ℕ) → NoneOf code ks → (x : ℕ) → isKey x ks ≡ true → eqb code x ≡ false
 not-key code [] n x t = absurd (false≢true t)
 not-key code (k ∷ ks) n x t = here (eqb x k) refl (λ t′. not-key code ks (n .0) x t′) t
   where

@@ -1,0 +1,24 @@
+-- A step that waits, and one that plays. Assumes nothing.
+use mathlib.Core.Path.{_≡_, ap}
+use mathlib.Core.Bool.{Bool, true, false}
+use mathlib.Core.List.{List}
+use Prim.Native.Nat.{ℕ}
+use Rattle.house.specs.World.{World}
+use Rattle.text.specs.Ink.{Ink, ink, putAll}
+use Rattle.record.specs.Records.{lengthField, recordOf}
+use Rattle.player.specs.Playing.{Said, saidOf}
+use Rattle.player.specs.Lines.{lineOf}
+use Rattle.player.specs.Steps.{readyB, waiting, playedOf, stepOf}
+
+pub waits : (w : World) (number : ℕ) (script : List ℕ) (ended : Bool) (line : List ℕ) → readyB script ended ≡ false
+    → stepOf w number script ended line ≡ waiting w line
+unfolding stepOf
+waits w number script ended line e = rw e
+
+pub plays : (w : World) (number : ℕ) (script : List ℕ) (ended : Bool) (line : List ℕ) (s : Said) (used : ℕ) (i : Ink)
+    → readyB script ended ≡ true → s ≡ saidOf w script (recordOf script) → used ≡ lengthField script
+    → i ≡ putAll (ink 0 line) (lineOf number s)
+    → record { waits = false; bad = s .bad; used = used; line = i; world = s .world } ≡ stepOf w number script ended line
+unfolding stepOf playedOf
+plays w number script ended line s used i ready says takes puts =
+    rw (ready, takes, puts) (ap (playedOf number script line) says)

@@ -1,0 +1,101 @@
+-- What holds of every step. Assumes nothing.
+use mathlib.Core.Path.{_≡_, refl, sym, ap, _∙_}
+use mathlib.Core.Bool.{Bool, true, false, cond, not, _&&_, _||_, true≢false, false≢true}
+use mathlib.Core.List.{List, _++_}
+use Prim.Native.Nat.{ℕ, _+_, _<_, _≤_}
+use native.Mathlib.Omega.{arith}
+use lib.Dec.{eqb, leb, ltb}
+use lib.ListN.{length, take, drop, length-drop}
+use lib.Seq.{drop-append-le, take-append-le}
+use Rattle.house.specs.World.{World}
+use Rattle.text.specs.Ink.{ink, putAll}
+use Rattle.text.proofs.Putting.{fits-whole, stays-in-line}
+use Rattle.record.specs.Records.{lengthField, recordOf}
+use Rattle.record.specs.Waiting.{enoughB}
+use Rattle.record.specs.Holding.{Holds}
+use Rattle.record.specs.declared.Record.{Record}
+use Rattle.record.specs.declared.Record.the-variants.{Insert, Eject, Command, Feed, Pull, Bad}
+use Rattle.record.proofs.Waiting.{enough-tells, few-come}
+use Rattle.record.proofs.Holding.{all-hold}
+use Rattle.disc.proofs.Truth.{neither}
+use Rattle.player.specs.Playing.{commandSaid, feedSaid, saidOf}
+use Rattle.player.specs.Lines.{lineOf}
+use Rattle.player.specs.Steps.{Stepped, readyB, waiting, playedOf, stepOf}
+use Rattle.player.specs.Theorems.{UsesWhatIsThere, EndsInLine, WholeLine, WaitsForFew, WhateverFollows}
+use Rattle.player.proofs.Lengths.{fits-line}
+
+module _ (w : World) (number : ℕ) (script : List ℕ) (ended : Bool) (line : List ℕ) where
+  -- what holds of a step that plays and of one that waits
+  by-ready : (P : Stepped → Type 0) → (readyB script ended ≡ true → P (playedOf number script line (saidOf w script (recordOf script))))
+      → (readyB script ended ≡ false → P (waiting w line)) → P (stepOf w number script ended line)
+  unfolding stepOf
+  by-ready P plays waits = here (readyB script ended) refl
+    where
+      here : (b : Bool) → readyB script ended ≡ b
+          → P (cond b (playedOf number script line (saidOf w script (recordOf script))) (waiting w line))
+      here true e = plays e
+      here false e = waits e
+
+-- a record that isn't bad is whole
+there : (w : World) (script : List ℕ) (r : Record) → Holds r script → saidOf w script r .bad ≡ false → lengthField script ≤ length script
+there w script (Insert number prot) h _ = h
+there w script Eject h _ = h
+there w script Command h _ = h .0
+there w script (Feed n) h _ = h .0
+there w script (Pull n) h _ = h .0
+there w script Bad h e = absurd (true≢false e)
+
+pub uses-what-is-there : UsesWhatIsThere
+unfolding playedOf
+uses-what-is-there w number script ended line =
+    by-ready w number script ended line (λ s. s .bad ≡ false → s .used ≤ length script)
+    (λ _ good. there w script (recordOf script) (all-hold script) good)
+    (λ _ _. omega arith)
+
+pub ends-in-line : EndsInLine
+unfolding playedOf
+ends-in-line w number script ended line =
+    by-ready w number script ended line (λ s. s .line .at ≤ length line)
+    (λ _. stays-in-line (ink 0 line) (lineOf number (saidOf w script (recordOf script))) (omega arith) .0)
+    (λ _. omega arith)
+
+pub whole-line : WholeLine
+unfolding playedOf
+whole-line w number script ended line h =
+    let text = lineOf number (saidOf w script (recordOf script)) in
+    by-ready w number script ended line
+    (λ s. s .waits ≡ false → s .line ≡ ink (length (text)) (text ++ drop (length text) line))
+    (λ _ _. fits-whole line (lineOf number (saidOf w script (recordOf script))) (let n = fits-line w number script in omega (arith, n, h)))
+    (λ _ e. absurd {0} (true≢false e))
+
+pub waits-for-few : WaitsForFew
+unfolding playedOf
+waits-for-few w number script ended line =
+    by-ready w number script ended line (λ s. s .waits ≡ true → length script < 516) (λ _ e. absurd (false≢true e)) (λ e _. few-come script (neither (enoughB script) (ended && not (eqb (length script) 0)) e .0))
+
+-- the n bytes behind the header
+behind : (script more : List ℕ) (n : ℕ) → 4 + n ≤ length script → take n (drop 4 (script ++ more)) ≡ take n (drop 4 script)
+behind script more n h =
+    ap (λ (xs : List ℕ). take n xs) (drop-append-le 4 script more (omega (arith, h)))
+    ∙ take-append-le n (drop 4 script) more (rw (length-drop 4 script) (omega (arith, h)))
+
+-- a record that was told is played alike, whatever comes behind it
+alike : (w : World) (script more : List ℕ) (r : Record) → Holds r script → saidOf w (script ++ more) r ≡ saidOf w script r
+alike w script more (Insert number prot) h = refl
+alike w script more Eject h = refl
+alike w script more Command h = ap (commandSaid w) (behind script more 12 (omega (arith, h .0, h .1)))
+alike w script more (Feed n) h = ap (feedSaid w) (behind script more n (omega (arith, h .0, h .1)))
+alike w script more (Pull n) h = refl
+alike w script more Bad h = refl
+
+or-false : (a : Bool) → (a || false) ≡ true → a ≡ true
+or-false true e = refl
+or-false false e = e
+
+pub whatever-follows : WhateverFollows
+unfolding stepOf playedOf
+whatever-follows w number script more ended line =
+    by-ready w number script false line (λ s. s .waits ≡ false → stepOf w number (script ++ more) ended line ≡ s)
+    (λ e _. let told = enough-tells script (or-false (enoughB script) e) in
+    rw (told .still more, told .same more, told .long more, alike w script more (recordOf script) (all-hold script)))
+    (λ _ e. absurd (true≢false e))

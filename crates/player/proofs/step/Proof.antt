@@ -1,0 +1,31 @@
+use mathlib.Core.Path.{refl, sym}
+use borrow.Author.Needs.{needs}
+use borrow.Author.Tests.{not-true, not-false}
+use Rattle.player.proofs.Stepping.{waits, plays}
+use Rattle.player.proofs.step.Statement.{statement}
+use Rattle.player.proofs.step.Tie as tie
+
+returns : tie.Need-returns
+returns c = sym (waits _ _ _ _ _ (rw (← c .before .enough .ensures) (not-true _ (c .if1 .taken))))
+
+returns-2 : tie.Need-returns-2
+returns-2 c =
+    let test = c .before .before .before .before .before .before .before .before .before .before .before .before .before .before .before .before in
+    plays _ _ _ _ _ _ _ _ (rw (← test .before .enough .ensures) (not-false _ (test .if1 .left))) (c .before .before .before .before .before .before .before .before .before .before .before .before .play .ensures)
+    (c .length-field .ensures) (c .before .before .before .before .put-line .ensures _ _)
+
+pub step-spec : {M : Type 1} → statement M
+step-spec =
+    tie.close
+    (tie.spec
+    (λ _ _. tt)
+    returns
+    (λ c. search needs)
+    (λ c _. refl)
+    (λ c. search needs)
+    (λ _ _. tt)
+    (λ _ _. tt)
+    (λ c. search needs)
+    (λ c. search needs)
+    (λ c. search needs)
+    returns-2)

@@ -1,0 +1,4 @@
+pub mod Playing
+pub mod Lines
+pub mod Steps
+pub mod Theorems

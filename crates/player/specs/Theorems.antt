@@ -1,0 +1,39 @@
+-- What holds of every step. Each is proved in `proofs/` under the name in small letters, `UsesWhatIsThere` as `uses-what-is-there`.
+use mathlib.Core.Path.{_≡_}
+use mathlib.Core.Bool.{Bool, true, false}
+use mathlib.Core.List.{List, _++_}
+use Prim.Native.Nat.{ℕ, _<_, _≤_}
+use lib.ListN.{length, drop}
+use Rattle.house.specs.World.{World}
+use Rattle.text.specs.Ink.{ink}
+use Rattle.record.specs.Records.{recordOf}
+use Rattle.player.specs.Playing.{saidOf}
+use Rattle.player.specs.Lines.{lineOf}
+use Rattle.player.specs.Steps.{stepOf}
+
+-- a record that was played is there whole
+abbrev pub UsesWhatIsThere : Type 0
+UsesWhatIsThere = (w : World) (number : ℕ) (script : List ℕ) (ended : Bool) (line : List ℕ)
+    → stepOf w number script ended line .bad ≡ false → stepOf w number script ended line .used ≤ length script
+
+-- a line ends within what was lent for it
+abbrev pub EndsInLine : Type 0
+EndsInLine = (w : World) (number : ℕ) (script : List ℕ) (ended : Bool) (line : List ℕ)
+    → stepOf w number script ended line .line .at ≤ length line
+
+-- 1,100 bytes hold every line whole
+abbrev pub WholeLine : Type 0
+WholeLine = (w : World) (number : ℕ) (script : List ℕ) (ended : Bool) (line : List ℕ) → 1100 ≤ length line
+    → stepOf w number script ended line .waits ≡ false
+    → let text = lineOf number (saidOf w script (recordOf script)) in
+    stepOf w number script ended line .line ≡ ink (length text) (text ++ drop (length text) line)
+
+-- a step waits for the rest of one record, and none is longer than 516 bytes
+abbrev pub WaitsForFew : Type 0
+WaitsForFew = (w : World) (number : ℕ) (script : List ℕ) (ended : Bool) (line : List ℕ)
+    → stepOf w number script ended line .waits ≡ true → length script < 516
+
+-- a step that does not wait is the same whatever comes behind the bytes that it saw
+abbrev pub WhateverFollows : Type 0
+WhateverFollows = (w : World) (number : ℕ) (script more : List ℕ) (ended : Bool) (line : List ℕ)
+    → stepOf w number script false line .waits ≡ false → stepOf w number (script ++ more) ended line ≡ stepOf w number script false line

@@ -1,0 +1,129 @@
+// The bytes of a script, taken apart record by record.
+ghost use mathlib.Core.Path.{_≡_};
+ghost use mathlib.Core.Bool.{cond};
+ghost use Prim.Native.Nat.{_-_};
+ghost use Rattle.record.specs.declared.Record.the-variants.{Bad};
+ghost use Rattle.record.specs.Records.{fieldOf, lengthField, kindField, wholeB, ifWhole, insertionOf, pullOf, recordOf};
+ghost use Rattle.record.specs.Waiting.{enoughB};
+use packet::byte;
+
+// What a record asks to be played.
+pub enum Record {
+    // the disc's number and its protection
+    Insert(u8, bool),
+    Eject,
+    // the packet is the 12 bytes after the header
+    Command,
+    // the piece is so many bytes after the header
+    Feed(usize),
+    // so many bytes are asked for
+    Pull(usize),
+    Bad,
+}
+
+pub const HEADER_BYTES: usize = 4;
+
+pub const PACKET_BYTES: usize = 12;
+
+// The most bytes of a piece, and the most that a pull may ask for.
+pub const PIECE_BYTES: usize = 512;
+
+// The longest record of a script.
+pub const RECORD_BYTES: usize = 516;
+
+const INSERT: usize = 1;
+
+const EJECT: usize = 2;
+
+const COMMAND: usize = 3;
+
+const FEED: usize = 4;
+
+const PULL: usize = 5;
+
+// A field of two bytes, little-endian.
+fn field(low: u8, high: u8) -> usize
+    ensures { λ r. ⌜ r ≡ fieldOf low high ⌝ }
+{
+    (low as usize) + (high as usize) * 256
+}
+
+pub fn length_field(bytes: &[u8]) -> usize
+    ensures { λ r. ⌜ r ≡ lengthField (now (bytes .entry)) ⌝ }
+{
+    field(byte(bytes, 0), byte(bytes, 1))
+}
+
+fn kind_field(bytes: &[u8]) -> usize
+    ensures { λ r. ⌜ r ≡ kindField (now (bytes .entry)) ⌝ }
+{
+    field(byte(bytes, 2), byte(bytes, 3))
+}
+
+// Whether the record at the front has a length from `least` to `most`, and is not cut short.
+fn whole(bytes: &[u8], least: usize, most: usize) -> bool
+    ensures { λ r. ⌜ r ≡ wholeB least most (now (bytes .entry)) ⌝ }
+{
+    let length = length_field(bytes);
+    (least <= length) & (length <= most) & (length <= bytes.len())
+}
+
+// Whether more bytes behind these can't change what the record at the front is.
+pub fn enough(bytes: &[u8]) -> bool
+    ensures { λ r. ⌜ r ≡ enoughB (now (bytes .entry)) ⌝ }
+{
+    let length = length_field(bytes);
+    (HEADER_BYTES <= bytes.len()) & ((length <= bytes.len()) | (RECORD_BYTES < length))
+}
+
+fn if_good(good: bool, told: Record) -> Record
+    ensures { λ r. ⌜ r ≡ cond good told Bad ⌝ }
+{
+    if good { told } else { Record::Bad }
+}
+
+fn if_whole(bytes: &[u8], least: usize, most: usize, told: Record) -> Record
+    ensures { λ r. ⌜ r ≡ ifWhole least most (now (bytes .entry)) told ⌝ }
+{
+    if_good(whole(bytes, least, most), told)
+}
+
+fn insertion(number: u8, protection: u8) -> Record
+    ensures { λ r. ⌜ r ≡ insertionOf number protection ⌝ }
+{
+    if_good(protection <= 1, Record::Insert(number, protection == 1))
+}
+
+// How many bytes follow the header.
+fn after_header(bytes: &[u8]) -> usize
+    ensures { λ r. ⌜ r ≡ lengthField (now (bytes .entry)) - 4 ⌝ }
+{
+    let length = length_field(bytes);
+    if length < HEADER_BYTES {
+        0
+    } else {
+        length - HEADER_BYTES
+    }
+}
+
+fn pull(low: u8, high: u8) -> Record
+    ensures { λ r. ⌜ r ≡ pullOf low high ⌝ }
+{
+    let count = field(low, high);
+    if_good(count <= PIECE_BYTES, Record::Pull(count))
+}
+
+// The record at the front of a script.
+pub fn first_record(bytes: &[u8]) -> Record
+    ensures { λ r. ⌜ r ≡ recordOf (now (bytes .entry)) ⌝ }
+{
+    let kind = kind_field(bytes);
+    match kind {
+        INSERT => if_whole(bytes, 6, 6, insertion(byte(bytes, 4), byte(bytes, 5))),
+        EJECT => if_whole(bytes, 4, 4, Record::Eject),
+        COMMAND => if_whole(bytes, 16, 16, Record::Command),
+        FEED => if_whole(bytes, 4, 516, Record::Feed(after_header(bytes))),
+        PULL => if_whole(bytes, 6, 6, pull(byte(bytes, 4), byte(bytes, 5))),
+        _ => Record::Bad,
+    }
+}

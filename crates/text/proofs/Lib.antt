@@ -1,0 +1,3 @@
+pub mod Putting
+pub mod Digits
+pub mod Reading

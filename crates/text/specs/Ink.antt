@@ -1,0 +1,32 @@
+-- Text put into a line of a fixed length, byte after byte.
+use mathlib.Core.Path.{_≡_}
+use mathlib.Core.Bool.{cond}
+use mathlib.Core.List.{List, [], _∷_, _++_}
+use Prim.Native.Nat.{ℕ, _+_, _≤_}
+use lib.Dec.{ltb}
+use lib.ListN.{length, set, drop}
+
+-- the place of the next byte, and the line's bytes
+pub record Ink : Type 0 where
+  pub at : ℕ
+  pub line : List ℕ
+
+abbrev pub ink : ℕ → List ℕ → Ink
+ink at line = record { at = at; line = line }
+
+-- a line that is full is left as it is
+abbrev pub putByte : Ink → ℕ → Ink
+putByte i b = cond (ltb (i .at) (length (i .line))) (ink (i .at + 1) (set (i .line) (i .at) b)) i
+
+unfoldable pub putAll : Ink → List ℕ → Ink
+putAll i [] = i
+putAll i (b ∷ bs) = putAll (putByte i b) bs
+
+-- a text that fits stands at the start of the line, the rest of the line as it was
+abbrev pub FitsWhole : Type 0
+FitsWhole = (line text : List ℕ) → length text ≤ length line → putAll (ink 0 line) text ≡ ink (length text) (text ++ drop (length text) line)
+
+-- putting never leaves the line, and keeps its length
+abbrev pub StaysInLine : Type 0
+StaysInLine = (i : Ink) (text : List ℕ) → i .at ≤ length (i .line)
+    → (putAll i text .at ≤ length (i .line)) × (length (putAll i text .line) ≡ length (i .line))
