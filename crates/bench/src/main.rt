@@ -11,6 +11,9 @@ ghost use Prim.Native.Nat.{_+_, _-_, _≤_};
 ghost use lib.ListN.{length, drop};
 ghost use Rattle.bench.specs.Windows.{Open, unread, doneOf};
 
+// As much as one read may bring.
+const WINDOW_BYTES: usize = 65536;
+
 // The run so far. The bytes of the window from `from` up to `upto` were read and are not yet played.
 struct Run {
     on: bool,
@@ -31,7 +34,7 @@ fn keep(window: &mut [u8], from: usize, upto: usize) -> usize
     ensures { λ r. ⌜ r ≡ upto - from ⌝ }
     ensures { λ _. ⌜ now (window .exit) ≡ unread from upto (now (window .entry)) ++ drop (upto - from) (now (window .entry)) ⌝ }
 {
-    let mut kept = [0u8; 516];
+    let mut kept = [0u8; record::RECORD_BYTES];
     let n = bytes::copy(&window[from..upto], &mut kept);
     bytes::copy(&kept[..n], window)
 }
@@ -133,10 +136,10 @@ fn turn(run: Run, window: &[u8], buffer: &mut [u8], disc: &mut [u8], line: &mut 
 }
 
 fn main() {
-    let mut window = [0u8; 65536];
-    let mut buffer = [0u8; 1024];
-    let mut disc = [0u8; 32768];
-    let mut line = [0u8; 1100];
+    let mut window = [0u8; WINDOW_BYTES];
+    let mut buffer = [0u8; disc::BUFFER_BYTES];
+    let mut disc = [0u8; player::DISC_BYTES];
+    let mut line = [0u8; player::LINE_BYTES];
     let mut run = Run {
         on: true,
         waits: true,

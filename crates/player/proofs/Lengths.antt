@@ -1,11 +1,11 @@
 -- How long a line can be. Assumes nothing.
-use mathlib.Core.Path.{_≡_, refl, sym, ap, _∙_}
+use mathlib.Core.Path.{_≡_, refl}
 use mathlib.Core.Bool.{Bool, true, false, cond}
 use mathlib.Core.List.{List, [], _∷_, _++_}
 use Prim.Native.Nat.{ℕ, _+_, _*_, _≤_}
 use native.Mathlib.Omega.{arith}
 use lib.Dec.{ltb}
-use lib.ListN.{length, take, drop, replicate, length-append, length-take, length-replicate}
+use lib.ListN.{length, replicate, length-append, length-take, length-replicate}
 use Rattle.house.specs.World.{World}
 use Rattle.moves.specs.Pulls.{pullOf}
 use Rattle.text.specs.Numbers.{hexesOf, decimalOf}

@@ -4,15 +4,15 @@ use mathlib.Core.Bool.{Bool, true, false, cond, not, _&&_, _||_, true≢false, f
 use mathlib.Core.List.{List, _++_}
 use Prim.Native.Nat.{ℕ, _+_, _<_, _≤_}
 use native.Mathlib.Omega.{arith}
-use lib.Dec.{eqb, leb, ltb}
+use lib.Dec.{eqb}
 use lib.ListN.{length, take, drop, length-drop}
 use lib.Seq.{drop-append-le, take-append-le}
 use Rattle.house.specs.World.{World}
-use Rattle.text.specs.Ink.{ink, putAll}
+use Rattle.text.specs.Ink.{ink}
 use Rattle.text.proofs.Putting.{fits-whole, stays-in-line}
-use Rattle.record.specs.Records.{lengthField, recordOf}
+use Rattle.record.specs.Records.{recordOf}
 use Rattle.record.specs.Waiting.{enoughB}
-use Rattle.record.specs.Holding.{Holds}
+use Rattle.record.specs.Holding.{There, Holds}
 use Rattle.record.specs.declared.Record.{Record}
 use Rattle.record.specs.declared.Record.the-variants.{Insert, Eject, Command, Feed, Pull, Bad}
 use Rattle.record.proofs.Waiting.{enough-tells, few-come}
@@ -21,7 +21,8 @@ use Rattle.disc.proofs.Truth.{neither}
 use Rattle.player.specs.Playing.{commandSaid, feedSaid, saidOf}
 use Rattle.player.specs.Lines.{lineOf}
 use Rattle.player.specs.Steps.{Stepped, readyB, waiting, playedOf, stepOf}
-use Rattle.player.specs.Theorems.{UsesWhatIsThere, EndsInLine, WholeLine, WaitsForFew, WhateverFollows}
+use Rattle.player.specs.Theorems.{UsesWhatIsThere, EndsInLine, WholeLine, WaitsForFew, WhateverFollows, OneStep}
+use Rattle.player.specs.declared.Progress.{Progress}
 use Rattle.player.proofs.Lengths.{fits-line}
 
 module _ (w : World) (number : ℕ) (script : List ℕ) (ended : Bool) (line : List ℕ) where
@@ -37,7 +38,7 @@ module _ (w : World) (number : ℕ) (script : List ℕ) (ended : Bool) (line : L
       here false e = waits e
 
 -- a record that isn't bad is whole
-there : (w : World) (script : List ℕ) (r : Record) → Holds r script → saidOf w script r .bad ≡ false → lengthField script ≤ length script
+pub there : (w : World) (script : List ℕ) (r : Record) → Holds r script → saidOf w script r .bad ≡ false → There script
 there w script (Insert number prot) h _ = h
 there w script Eject h _ = h
 there w script Command h _ = h .0
@@ -49,7 +50,7 @@ pub uses-what-is-there : UsesWhatIsThere
 unfolding playedOf
 uses-what-is-there w number script ended line =
     by-ready w number script ended line (λ s. s .bad ≡ false → s .used ≤ length script)
-    (λ _ good. there w script (recordOf script) (all-hold script) good)
+    (λ _ good. there w script (recordOf script) (all-hold script) good .1)
     (λ _ _. omega arith)
 
 pub ends-in-line : EndsInLine
@@ -80,15 +81,15 @@ behind script more n h =
     ∙ take-append-le n (drop 4 script) more (rw (length-drop 4 script) (omega (arith, h)))
 
 -- a record that was told is played alike, whatever comes behind it
-alike : (w : World) (script more : List ℕ) (r : Record) → Holds r script → saidOf w (script ++ more) r ≡ saidOf w script r
+pub alike : (w : World) (script more : List ℕ) (r : Record) → Holds r script → saidOf w (script ++ more) r ≡ saidOf w script r
 alike w script more (Insert number prot) h = refl
 alike w script more Eject h = refl
-alike w script more Command h = ap (commandSaid w) (behind script more 12 (omega (arith, h .0, h .1)))
-alike w script more (Feed n) h = ap (feedSaid w) (behind script more n (omega (arith, h .0, h .1)))
+alike w script more Command h = ap (commandSaid w) (behind script more 12 (omega (arith, h .0 .1, h .1)))
+alike w script more (Feed n) h = ap (feedSaid w) (behind script more n (omega (arith, h .0 .1, h .1)))
 alike w script more (Pull n) h = refl
 alike w script more Bad h = refl
 
-or-false : (a : Bool) → (a || false) ≡ true → a ≡ true
+pub or-false : (a : Bool) → (a || false) ≡ true → a ≡ true
 or-false true e = refl
 or-false false e = e
 
@@ -99,3 +100,12 @@ whatever-follows w number script more ended line =
     (λ e _. let told = enough-tells script (or-false (enoughB script) e) in
     rw (told .still more, told .same more, told .long more, alike w script more (recordOf script) (all-hold script)))
     (λ _ e. absurd (true≢false e))
+
+-- a step's answer, without what was lent
+abbrev answer : Stepped → Progress
+answer s = record { waits = s .waits; bad = s .bad; used = s .used; length = s .line .at; state = s .world .state }
+
+pub one-step : OneStep
+one-step s r q line buffer disc line′ buffer′ disc′ e f =
+    let same = e ∙ sym f in
+    (ap answer same, ap (λ (s : Stepped). s .line .line) same, ap (λ (s : Stepped). s .world .buffer) same, ap (λ (s : Stepped). s .world .disc) same)

@@ -2,3 +2,4 @@ pub mod Playing
 pub mod Lines
 pub mod Steps
 pub mod Theorems
+pub mod Runs

@@ -9,7 +9,8 @@ use Rattle.text.specs.Ink.{ink}
 use Rattle.record.specs.Records.{recordOf}
 use Rattle.player.specs.Playing.{saidOf}
 use Rattle.player.specs.Lines.{lineOf}
-use Rattle.player.specs.Steps.{stepOf}
+use Rattle.player.specs.Steps.{Stepped, stepped, stepOf}
+use Rattle.player.specs.declared.Progress.{Progress}
 
 -- a record that was played is there whole
 abbrev pub UsesWhatIsThere : Type 0
@@ -37,3 +38,8 @@ WaitsForFew = (w : World) (number : ℕ) (script : List ℕ) (ended : Bool) (lin
 abbrev pub WhateverFollows : Type 0
 WhateverFollows = (w : World) (number : ℕ) (script more : List ℕ) (ended : Bool) (line : List ℕ)
     → stepOf w number script false line .waits ≡ false → stepOf w number (script ++ more) ended line ≡ stepOf w number script false line
+
+-- two answers that the promise of a step allows are equal: the answer, and each byte of line, block buffer and disc
+abbrev pub OneStep : Type 0
+OneStep = (s : Stepped) (r q : Progress) (line buffer disc line′ buffer′ disc′ : List ℕ)
+    → stepped r line buffer disc ≡ s → stepped q line′ buffer′ disc′ ≡ s → (r ≡ q) × (line ≡ line′) × (buffer ≡ buffer′) × (disc ≡ disc′)

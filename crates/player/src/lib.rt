@@ -26,12 +26,12 @@ pub struct Progress {
 }
 
 // What a record came to; the first `shown` bytes of the buffer for pulls are to be printed.
-pub struct Outcome {
-    pub bad: bool,
-    pub house: u8,
-    pub count: usize,
-    pub shown: usize,
-    pub state: State,
+pub(crate) struct Outcome {
+    pub(crate) bad: bool,
+    pub(crate) house: u8,
+    pub(crate) count: usize,
+    pub(crate) shown: usize,
+    pub(crate) state: State,
 }
 
 // The bench's disc is disc 4.
@@ -62,7 +62,7 @@ pub fn step(
             state: state,
         };
     }
-    let mut out = [0u8; 512];
+    let mut out = [0u8; record::PIECE_BYTES];
     let outcome = playing::play(state, script, buffer, disc, &mut out);
     let length = lines::put_line(line, &out, number, outcome);
     let after = outcome.state;

@@ -1,6 +1,8 @@
 // What is played of a record.
 use crate::Outcome;
 use drive::House;
+use record::COMMAND_BYTES;
+use record::HEADER_BYTES;
 use record::Record;
 use state::State;
 ghost use mathlib.Core.Path.{_≡_};
@@ -100,10 +102,10 @@ pub(crate) fn play(
     match told {
         Record::Insert(number, protected) => insert(state, number, protected, disc),
         Record::Eject => eject(state),
-        Record::Command => command(state, &script[4..16], buffer, disc),
+        Record::Command => command(state, &script[HEADER_BYTES..COMMAND_BYTES], buffer, disc),
         Record::Feed(n) => {
-            let end = 4 + n;
-            feed(state, &script[4..end], buffer, disc)
+            let end = HEADER_BYTES + n;
+            feed(state, &script[HEADER_BYTES..end], buffer, disc)
         }
         Record::Pull(n) => pull(state, &mut out[..n], buffer, disc),
         Record::Bad => Outcome {

@@ -10,7 +10,7 @@ use lib.ListN.{length}
 use Rattle.disc.proofs.Truth.{both}
 use Rattle.packet.specs.Fields.{byteAt}
 use Rattle.record.specs.Records.{Row, fieldOf, lengthField, kindField, wholeB, saidBy, scriptRows, recordOf}
-use Rattle.record.specs.Holding.{Holds, AllHold}
+use Rattle.record.specs.Holding.{There, Holds, AllHold}
 use Rattle.record.specs.declared.Record.{Record}
 use Rattle.record.specs.declared.Record.the-variants.{Bad}
 
@@ -26,6 +26,10 @@ whole least most bytes w =
     let (ends, there) = both (leb least n && leb n most) (leb n (length bytes)) w in
     let (low, high) = both (leb least n) (leb n most) ends in
     record { low = leb-true least n low; high = leb-true n most high; there = leb-true n (length bytes) there }
+
+-- every row's least length counts the header
+there : (least most : ℕ) (bytes : List ℕ) → 4 ≤ least → wholeB least most bytes ≡ true → There bytes
+there least most bytes h w = let t = whole least most bytes w in (omega (arith, h, t .low), t .there)
 
 -- a test that fails leaves a record bad
 if-good : (bytes : List ℕ) (t : Bool) (r : Record) → (t ≡ true → Holds r bytes) → Holds (cond t r Bad) bytes
@@ -49,14 +53,14 @@ pub all-hold : AllHold
 unfolding recordOf scriptRows
 all-hold bytes =
     all-rows scriptRows bytes (
-      (λ w. if-good bytes (leb (byteAt bytes 5) 1) _ (λ _. whole 6 6 bytes w .there)),
+      (λ w. if-good bytes (leb (byteAt bytes 5) 1) _ (λ _. there 6 6 bytes (omega arith) w)),
       (
-        (λ w. whole 4 4 bytes w .there),
+        there 4 4 bytes (omega arith),
         (
-          (λ w. let h = whole 16 16 bytes w in (h .there, omega (arith, h .low, h .high))),
+          (λ w. let h = whole 16 16 bytes w in (there 16 16 bytes (omega arith) w, omega (arith, h .low, h .high))),
           (
-            (λ w. let h = whole 4 516 bytes w in (h .there, omega (arith, h .low))),
-            ((λ w. if-good bytes (leb (fieldOf (byteAt bytes 4) (byteAt bytes 5)) 512) _ (λ t. (whole 6 6 bytes w .there, leb-true _ 512 t))), tt),
+            (λ w. let h = whole 4 516 bytes w in (there 4 516 bytes (omega arith) w, omega (arith, h .low))),
+            ((λ w. if-good bytes (leb (fieldOf (byteAt bytes 4) (byteAt bytes 5)) 512) _ (λ t. (there 6 6 bytes (omega arith) w, leb-true _ 512 t))), tt),
           ),
         ),
       ),

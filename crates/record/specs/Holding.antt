@@ -7,9 +7,9 @@ use Rattle.record.specs.Records.{lengthField, recordOf}
 use Rattle.record.specs.declared.Record.{Record}
 use Rattle.record.specs.declared.Record.the-variants.{Insert, Eject, Command, Feed, Pull, Bad}
 
--- it is whole
+-- its length counts the header, and it is whole
 abbrev pub There : List ℕ → Type 0
-There bytes = lengthField bytes ≤ length bytes
+There bytes = (4 ≤ lengthField bytes) × (lengthField bytes ≤ length bytes)
 
 -- a command has 12 bytes behind its header and a feed its piece; a pull asks for 512 bytes at the most
 abbrev pub Holds : Record → List ℕ → Type 0

@@ -21,11 +21,12 @@ pub enum Record {
     Bad,
 }
 
+// Length and kind.
 pub const HEADER_BYTES: usize = 4;
 
-pub const PACKET_BYTES: usize = 12;
+pub const COMMAND_BYTES: usize = 16;
 
-// The most bytes of a piece, and the most that a pull may ask for.
+// The most that a pull may ask for, and the most bytes of a piece.
 pub const PIECE_BYTES: usize = 512;
 
 // The longest record of a script.
@@ -120,9 +121,14 @@ pub fn first_record(bytes: &[u8]) -> Record
     let kind = kind_field(bytes);
     match kind {
         INSERT => if_whole(bytes, 6, 6, insertion(byte(bytes, 4), byte(bytes, 5))),
-        EJECT => if_whole(bytes, 4, 4, Record::Eject),
-        COMMAND => if_whole(bytes, 16, 16, Record::Command),
-        FEED => if_whole(bytes, 4, 516, Record::Feed(after_header(bytes))),
+        EJECT => if_whole(bytes, HEADER_BYTES, HEADER_BYTES, Record::Eject),
+        COMMAND => if_whole(bytes, COMMAND_BYTES, COMMAND_BYTES, Record::Command),
+        FEED => if_whole(
+            bytes,
+            HEADER_BYTES,
+            RECORD_BYTES,
+            Record::Feed(after_header(bytes)),
+        ),
         PULL => if_whole(bytes, 6, 6, pull(byte(bytes, 4), byte(bytes, 5))),
         _ => Record::Bad,
     }

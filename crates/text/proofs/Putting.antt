@@ -9,7 +9,7 @@ use mathlib.Core.Bool.{Bool, true, false, cond}
 use lib.Dec.{ltb}
 use lib.ListN.{length, drop, getD, length-append, set, length-set}
 use lib.Seq.{drop-cons, set-append-seam}
-use Rattle.text.specs.Ink.{Ink, ink, putByte, putAll, FitsWhole, StaysInLine}
+use Rattle.text.specs.Ink.{Ink, ink, putByte, putAll, FitsWhole, StaysInLine, OneText}
 use Rattle.text.specs.Numbers.{hexOf, hexesOf}
 
 -- one byte of a text, and one byte as digits
@@ -72,3 +72,6 @@ stays-in-line i (b ∷ bs) h =
     let (at, same) = one-stays i b h in
     let (end, all) = stays-in-line (putByte i b) bs (rw same at) in
     (rw (← same) end, all ∙ same)
+
+pub one-text : OneText
+one-text i text r q l m e f = let same = e ∙ sym f in (ap (λ (j : Ink). j .at) same, ap (λ (j : Ink). j .line) same)

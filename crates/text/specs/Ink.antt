@@ -30,3 +30,7 @@ FitsWhole = (line text : List ℕ) → length text ≤ length line → putAll (i
 abbrev pub StaysInLine : Type 0
 StaysInLine = (i : Ink) (text : List ℕ) → i .at ≤ length (i .line)
     → (putAll i text .at ≤ length (i .line)) × (length (putAll i text .line) ≡ length (i .line))
+
+-- two answers that a promise of this crate allows are equal: the place, and each byte of the line
+abbrev pub OneText : Type 0
+OneText = (i : Ink) (text : List ℕ) (r q : ℕ) (l m : List ℕ) → ink r l ≡ putAll i text → ink q m ≡ putAll i text → (r ≡ q) × (l ≡ m)

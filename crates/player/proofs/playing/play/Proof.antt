@@ -13,11 +13,11 @@ use Rattle.player.proofs.playing.play.Statement.{statement}
 use Rattle.player.proofs.playing.play.Tie as tie
 
 command-there : tie.Need-part-command-end
-command-there c = let h = holding _ _ Command (c .before .before .first-record .ensures) (c .enum-told2 .given .1) in omega (arith, h .0, h .1)
+command-there c = let h = holding _ _ Command (c .before .before .first-record .ensures) (c .enum-told2 .given .1) in omega (arith, h .0 .1, h .1)
 
 -- the piece is there
 piece : (c : tie.After-known-told2) → 4 + c .before .told2 .given .0 .0 ≤ length (c .before .before .before .before .before .before .before .before .args .script .now)
-piece c = let h = holding _ _ (Feed _) (c .before .before .before .first-record .ensures) (c .before .told2 .given .1) in omega (arith, h .0, h .1)
+piece c = let h = holding _ _ (Feed _) (c .before .before .before .first-record .ensures) (c .before .told2 .given .1) in omega (arith, h .0 .1, h .1)
 
 feed-fits : tie.Need-add-end
 feed-fits c = omega (arith, piece c, c .before .before .before .before .before .before .before .before)
