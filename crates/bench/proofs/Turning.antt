@@ -1,15 +1,15 @@
 -- What a step leaves to be read. Assumes nothing.
-use mathlib.Core.Path.{_≡_, refl, sym, ap, _∙_}
-use mathlib.Core.Bool.{Bool, true, false, not, _&&_, false≢true}
+use mathlib.Core.Path.{_≡_, sym, ap, _∙_}
+use mathlib.Core.Bool.{Bool, true, false}
 use mathlib.Core.List.{List}
-use Prim.Native.Nat.{ℕ, _+_, _-_, _<_, _≤_}
+use Prim.Native.Nat.{ℕ, _-_, _<_, _≤_}
 use native.Mathlib.Omega.{arith}
 use lib.ListN.{length}
 use Rattle.house.specs.World.{World}
 use Rattle.player.specs.Steps.{Stepped, stepOf, stepped}
 use Rattle.player.specs.declared.Progress.{Progress}
 use Rattle.player.proofs.Theorems.{uses-what-is-there, ends-in-line, waits-for-few}
-use Rattle.bench.specs.Windows.{Open, doneOf}
+use Rattle.bench.specs.Windows.{doneOf}
 
 module _ (w : World) (number : ℕ) (script : List ℕ) (ended : Bool) (line : List ℕ) (r : Progress) (after buffer disc : List ℕ)
     (e : stepped r after buffer disc ≡ stepOf w number script ended line) where
@@ -25,7 +25,3 @@ module _ (w : World) (number : ℕ) (script : List ℕ) (ended : Bool) (line : L
 
   pub few-left : r .waits ≡ true → length script < 516
   few-left t = waits-for-few w number script ended line (sym (ap (λ (s : Stepped). s .waits) e) ∙ t)
-
-pub first-true : (a b : Bool) → (a && b) ≡ true → a ≡ true
-first-true true b e = refl
-first-true false b e = absurd (false≢true e)

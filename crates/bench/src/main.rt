@@ -17,7 +17,7 @@ const WINDOW_BYTES: usize = 65536;
 // The run so far. The bytes of the window from `from` up to `upto` were read and are not yet played.
 struct Run {
     on: bool,
-    // a read is due before the next record
+    // a read is due
     waits: bool,
     ended: bool,
     from: usize,
@@ -142,7 +142,7 @@ fn main() {
     let mut line = [0u8; player::LINE_BYTES];
     let mut run = Run {
         on: true,
-        waits: true,
+        waits: false,
         ended: false,
         from: 0,
         upto: 0,
@@ -152,8 +152,8 @@ fn main() {
     // a loop has to end, and nothing says that the input does: no run uses these turns up
     let mut turns = u64::MAX;
     while (0 < turns) & run.on {
-        let filled = refill(run, &mut window);
-        run = turn(filled, &window, &mut buffer, &mut disc, &mut line);
+        let played = turn(run, &window, &mut buffer, &mut disc, &mut line);
+        run = refill(played, &mut window);
         turns -= 1;
     }
 }

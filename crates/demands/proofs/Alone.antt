@@ -1,20 +1,16 @@
 -- What is heard of a device that meets the demands is the ledger's alone, so two such devices are heard alike. Assumes nothing.
 use mathlib.Core.Path.{_≡_, refl, sym, ap, _∙_}
-use mathlib.Core.Bool.{Bool, true, false}
 use mathlib.Core.List.{List, [], _∷_}
 use Prim.Native.Nat.{ℕ}
-use borrow.Author.Tests.{eqb-true}
-use lib.Dec.{eqb}
 use lib.ListN.{length}
 use Rattle.disc.specs.Formats.{formatOf, blockBytes, runBytes, discBytes, bufferBytes}
 use Rattle.house.specs.World.{World, world}
-use Rattle.house.specs.House.{lentTests, commandTests}
 use Rattle.house.specs.Theorems.{Ready}
 use Rattle.house.proofs.Houses.{admits}
 use Rattle.drive.proofs.Keeps.{power-on-sound}
-use Rattle.demands.specs.Device.{Call, Insert, Eject, Command, Feed, Pull, Heard, Device}
-use Rattle.demands.specs.Answered.{houseOf, Answered}
-use Rattle.demands.specs.Ledger.{Ledger, Facts, known, noted}
+use Rattle.demands.specs.Device.{Call, Feed, Heard, Device}
+use Rattle.demands.specs.Answered.{Answered}
+use Rattle.demands.specs.Ledger.{Ledger, known, noted}
 use Rattle.demands.specs.Faithful.{Run, step, run, poweredOn, Accounted, Faithful, foretold}
 use Rattle.demands.proofs.Calls.{same-house}
 use Rattle.demands.proofs.Foretelling.{foretold-house}

@@ -3,11 +3,11 @@ use mathlib.Core.Path.{_≡_, refl, sym, ap, subst, _∙_}
 use mathlib.Core.Bool.{true, not, _&&_, _||_, false≢true}
 use mathlib.Core.List.{List, [], _∷_, _++_, append-nil, flatten}
 use Prim.Native.Nat.{ℕ, _+_, _-_, _≤_, min}
-use native.Mathlib.Nat.{add-zero, add-mul, zero-mul, mul-le-mul-right}
+use native.Mathlib.Nat.{add-zero, zero-mul}
 use native.Mathlib.Omega.{arith}
 use lib.ListN.{length, take, drop, length-drop, length-append, take-append-drop}
 use lib.Seq.{length-take-le, take-at, drop-length}
-use Rattle.disc.specs.Formats.{formatOf, blockBytes, runBytes, discBytes, placeOf}
+use Rattle.disc.specs.Formats.{blockBytes, runBytes, placeOf}
 use Rattle.state.specs.States.{passedOf, movedOf}
 use Rattle.state.specs.declared.State.{State}
 use Rattle.state.specs.declared.Transfer.the-variants.{Closed}

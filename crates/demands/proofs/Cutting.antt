@@ -16,7 +16,7 @@ use Rattle.sound.proofs.Transfers.{in-buffer, on-disc, writes}
 use Rattle.house.specs.World.{World}
 use Rattle.house.specs.Theorems.{Ready}
 use Rattle.moves.proofs.Entering.{feeds as fed, pulls as pulled}
-use Rattle.demands.specs.Device.{Call, Feed, Pull, Device, callOf, drive}
+use Rattle.demands.specs.Device.{Call, Feed, Pull, Device}
 use Rattle.demands.specs.Uncut.{Lent, lent, lendAll, CutAnywhere}
 use Rattle.demands.proofs.Lending.{
   lendOne,

@@ -4,19 +4,10 @@ use mathlib.Core.Bool.{true}
 use mathlib.Core.List.{List, [], _∷_}
 use Prim.Native.Nat.{ℕ}
 use borrow.Author.Tests.{ne-eqb}
-use Rattle.state.specs.Senses.{noSense}
-use Rattle.state.specs.States.{passedOf}
 use Rattle.sound.specs.Sound.{soundB}
-use Rattle.packet.specs.Fields.{lengthOf}
-use Rattle.packet.specs.declared.Rule.{Rule}
-use Rattle.packet.specs.declared.Routine.{Routine}
-use Rattle.packet.specs.declared.Routine.the-variants.{Nothing, Motor, Answer, Read, Write}
 use Rattle.checks.specs.Checks.{verdict}
-use Rattle.checks.specs.declared.Verdict.{Verdict}
-use Rattle.checks.specs.declared.Verdict.the-variants.{Passes, Fails}
 use Rattle.house.specs.World.{World}
 use Rattle.house.proofs.Houses.{admits}
-use Rattle.commands.specs.Commands.{routineOf, performedOf, obeyedOf}
 use Rattle.drive.proofs.Keeps.{power-on-sound}
 use Rattle.demands.specs.Device.{Call, Insert, Eject, Command, Feed, Pull, Heard, Reply, callOf, drive}
 use Rattle.demands.specs.Answered.{houseOf, judgedOf}

@@ -1,9 +1,9 @@
 -- A feed and a pull leave the ledger in agreement, and their counts and bytes are the ledger's. Assumes nothing.
-use mathlib.Core.Path.{_≡_, refl, sym, ap, subst, _∙_}
+use mathlib.Core.Path.{_≡_, refl, ap, subst, _∙_}
 use mathlib.Core.Bool.{false}
-use mathlib.Core.List.{List, [], _∷_, _++_, flatten}
+use mathlib.Core.List.{List, [], _++_, flatten}
 use Prim.Native.Nat.{ℕ, _+_, _-_, _≤_, min}
-use native.Mathlib.Nat.{sub-zero, add-zero}
+use native.Mathlib.Nat.{sub-zero}
 use native.Mathlib.Omega.{arith}
 use lib.ListN.{length, take, drop, length-drop}
 use lib.Seq.{length-take-le, take-add, drop-at, take-take, drop-drop}
@@ -14,7 +14,7 @@ use Rattle.state.specs.States.{movedOf}
 use Rattle.house.specs.World.{World, world}
 use Rattle.house.specs.Theorems.{Ready}
 use Rattle.moves.specs.Moves.{answerAfter, discAfter}
-use Rattle.moves.specs.Feeds.{Writing, writing, feedByte, feedBytes, takenOf, feedingOf}
+use Rattle.moves.specs.Feeds.{writing, feedBytes, takenOf, feedingOf}
 use Rattle.moves.specs.Pulls.{pullingOf}
 use Rattle.moves.proofs.Entering.{may-answer, may-read, may-write, feeds, pulls}
 use Rattle.demands.specs.Device.{Feed, Pull, heard, moves, callOf}

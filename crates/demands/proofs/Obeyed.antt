@@ -1,7 +1,7 @@
 -- What wrong devices obey all the same. Assumes nothing.
 use mathlib.Core.Path.{_≡_, refl, sym, ap, _∙_}
 use mathlib.Core.Bool.{Bool, true, false}
-use mathlib.Core.List.{List, [], _∷_, _++_, flatten}
+use mathlib.Core.List.{List, [], _∷_, _++_}
 use Prim.Native.Nat.{ℕ, suc, _+_}
 use native.Mathlib.Nat.{add-zero}
 use native.Mathlib.Omega.{arith}
@@ -11,18 +11,15 @@ use lib.Seq.{sets, length-sets}
 use Rattle.state.specs.declared.Transfer.{Transfer}
 use Rattle.state.specs.declared.Transfer.the-variants.{Closed, Answer as AnswerFrom, Read, Write}
 use Rattle.state.specs.States.{withTransfer, movedOf}
-use Rattle.packet.specs.Fields.{addressOf}
-use Rattle.packet.specs.declared.Rule.{Rule}
 use Rattle.house.specs.World.{World, world}
 use Rattle.house.specs.Theorems.{Ready}
 use Rattle.house.proofs.Houses.{ready-in}
 use Rattle.moves.specs.Feeds.{takenOf, feedingOf, feedOf}
 use Rattle.moves.proofs.Entering.{feeds as feeds-by}
-use Rattle.drive.specs.Theorems.{Feed as FeedCall}
 use Rattle.drive.proofs.Moving.{feed-keeps}
 use Rattle.drive.proofs.Refusing.{feed-refuses}
-use Rattle.demands.specs.Device.{Call, Command, Feed, Pull, Device, callOf, drive}
-use Rattle.demands.specs.Uncut.{Lent, lent, lendAll, CutAnywhere, carried, Part}
+use Rattle.demands.specs.Device.{Command, Feed, Pull, Device, callOf, drive}
+use Rattle.demands.specs.Uncut.{Lent, lent, carried, Part}
 use Rattle.demands.specs.Wrong.{handsOutZeros, discardsFeeds, firstBlockOnly, firstPullOnly, pulledOnce, versionOne, storedAt, versionThree, OnePullEach, Obeyed}
 use Rattle.demands.proofs.Lending.{lendOne, Puts, written, Feeds, ourPuts, our-feeds, Gives, Given, Pulls, fromDisc, fromBuffer, our-pulls}
 use Rattle.demands.proofs.Cutting.{cut-anywhere, feed-way, pull-way}

@@ -1,10 +1,8 @@
 -- Runs over any block buffer and any disc 4: the disc goes in, both attentions are told, and a READ or a WRITE passes. Assumes nothing.
-use mathlib.Core.Path.{_≡_, refl, sym, ap, subst, _∙_}
+use mathlib.Core.Path.{_≡_, refl, ap, subst}
 use mathlib.Core.Bool.{Bool, true, false}
 use mathlib.Core.List.{List, [], _∷_, _++_, flatten}
 use Prim.Native.Nat.{ℕ, min}
-use borrow.Author.Tests.{eqb-false}
-use lib.Dec.{eqb}
 use lib.ListN.{length, take, drop}
 use Rattle.disc.specs.Formats.{bufferBytes, formatOf, blockBytes, runBytes, discBytes, placeOf}
 use Rattle.disc.specs.Masks.{masks, maskRow}
@@ -28,9 +26,9 @@ use Rattle.moves.specs.Pulls.{pullOf}
 use Rattle.drive.specs.Cases.{lengthAt7, bytes2And4}
 use Rattle.demands.proofs.Foretelling.{foretold-accepted}
 use Rattle.demands.specs.Device.{Call, Insert, Command, Feed, Pull, Heard, Reply, reply, Device, moves, callOf}
-use Rattle.demands.specs.Answered.{houseOf, judgedOf}
+use Rattle.demands.specs.Answered.{judgedOf}
 use Rattle.demands.specs.Ledger.{Ledger, facts, store, ledger, blocksOf, known, noted}
-use Rattle.demands.specs.Faithful.{Run, run, poweredOn, Accounted, Faithful, foretells, foretold}
+use Rattle.demands.specs.Faithful.{Run, run, poweredOn, Accounted, Faithful}
 
 -- the counts and bytes of an accepted feed and pull
 module _ {d : Device} {r : Run} (a : Accounted d r) where

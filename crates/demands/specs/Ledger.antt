@@ -1,7 +1,7 @@
 -- The ledger: an account kept from the calls and from what was heard, and from nothing else.
-use mathlib.Core.Bool.{Bool, true, false, cond, not, _||_}
+use mathlib.Core.Bool.{Bool, true, false, cond, not}
 use mathlib.Core.List.{List, [], _∷_, _++_, flatten}
-use Prim.Native.Nat.{ℕ, zero, suc, _+_, _-_, _/_, min}
+use Prim.Native.Nat.{ℕ, zero, suc, _+_, _-_, _/_}
 use lib.Dec.{eqb}
 use lib.ListN.{length, take, drop, set}
 use Rattle.disc.specs.Formats.{formatOf, blockBytes, runBytes}
@@ -16,11 +16,8 @@ use Rattle.packet.specs.declared.Known.{Known}
 use Rattle.packet.specs.declared.Known.the-variants.{Unknown, Base}
 use Rattle.packet.specs.declared.Routine.{Routine}
 use Rattle.packet.specs.declared.Routine.the-variants.{Nothing, Motor, Answer, Read, Write}
-use Rattle.checks.specs.Checks.{verdict}
 use Rattle.answer.specs.Giving.{answerOf, allocationOf}
-use Rattle.house.specs.World.{World, world}
 use Rattle.demands.specs.Device.{Call, Insert, Eject, Command, Feed, Pull, Heard, heard}
-use Rattle.demands.specs.Answered.{houseOf, lentFor, judgedOf}
 
 -- what the caller knows of the drive: the disc that is in, its protection, the attentions that were not told yet, the triple heard last
 pub record Facts : Type 0 where

@@ -10,14 +10,11 @@ use lib.Dec.{eqb}
 use lib.ListN.{length, take}
 use Rattle.disc.specs.Formats.{runBytes}
 use Rattle.packet.specs.Fields.{byteAt, addressOf, lengthOf}
-use Rattle.packet.specs.Rules.{Entry, rules, ruleOf}
+use Rattle.packet.specs.Rules.{ruleOf}
 use Rattle.packet.specs.declared.Field.{Field}
 use Rattle.packet.specs.declared.Field.the-variants.{Nowhere, Byte4, Bytes7To8, Bytes6To9}
 use Rattle.packet.specs.declared.Rule.{Rule}
-use Rattle.packet.specs.declared.Routine.{Routine}
-use Rattle.packet.specs.declared.Routine.the-variants.{Nothing, Motor, Answer, Read, Write}
-use Rattle.packet.specs.declared.Known.{Known}
-use Rattle.packet.specs.declared.Known.the-variants.{Unknown, Base}
+use Rattle.packet.specs.declared.Known.the-variants.{Base}
 use Rattle.answer.specs.Bytes.{be2, be4}
 use Rattle.house.specs.World.{World}
 use Rattle.house.specs.Theorems.{Ready}

@@ -15,7 +15,6 @@ use Rattle.state.specs.declared.Transfer.the-variants.{Closed, Answer as Answer
 use Rattle.state.specs.States.{stateOf, powerOn, withTransfer, failedOf, passedOf}
 use Rattle.packet.specs.Fields.{byteAt, addressOf}
 use Rattle.packet.specs.declared.Rule.{Rule}
-use Rattle.packet.specs.declared.Routine.the-variants.{Read as Reads}
 use Rattle.house.specs.World.{World, world}
 use Rattle.demands.specs.Device.{Call, Insert, Eject, Command, Feed, Pull, Reply, reply, Device, callOf}
 use Rattle.demands.specs.Faithful.{Faithful}

@@ -4,8 +4,9 @@ use mathlib.Core.Bool.{Bool, false, cond}
 use mathlib.Core.List.{List, [], _∷_, _++_}
 use Prim.Native.Nat.{ℕ, zero, suc, _+_, _≤_}
 use lib.Dec.{eqb}
-use lib.ListN.{length, take, drop, getD}
-use Rattle.house.specs.World.{World}
+use lib.ListN.{length, take, drop, getD, replicate}
+use Rattle.state.specs.States.{powerOn}
+use Rattle.house.specs.World.{World, world}
 use Rattle.record.specs.Records.{lengthField, recordOf}
 use Rattle.player.specs.Playing.{saidOf}
 use Rattle.player.specs.Lines.{lineOf}
@@ -23,9 +24,17 @@ linesFrom (suc n) w number script =
 unfoldable pub linesOf : World → List ℕ → List ℕ
 linesOf w script = linesFrom (length script) w 1 script
 
+-- the bench at the start: "one 32,768-byte disc, zeros at the start", none in; the block buffer holds zeros, too
+unfoldable pub bench : World
+bench = world powerOn (replicate 1024 0) (replicate 32768 0)
+
+-- what the bench player prints of a script
+abbrev pub printed : List ℕ → List ℕ
+printed script = linesOf bench script
+
 -- the bench player as it reads: so many turns, the world, the number of the next record, the bytes that were read and are not played,
--- whether the input has ended, the reads that are still to come, and the buffer of the line;
--- a turn is a step; where it waits the next read goes behind the unread bytes, where no byte comes the input has ended, and where it waits after that the run stops
+-- whether the input has ended, the reads that are still to come, and the buffer of the line. A turn is a step; where it waits the next
+-- read goes behind the unread bytes; where that brings none the input has ended; where it waits after that the run stops
 abbrev pub reading : ℕ → World → ℕ → List ℕ → Bool → List (List ℕ) → List ℕ → List ℕ
 reading zero w number unread ended reads line = []
 reading (suc n) w number unread ended reads line =

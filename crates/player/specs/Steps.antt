@@ -12,7 +12,7 @@ use Rattle.player.specs.Playing.{Said, saidOf}
 use Rattle.player.specs.Lines.{lineOf}
 use Rattle.player.specs.declared.Progress.{Progress}
 
--- whether it waits, whether the record was bad, how many bytes of the script are done, the line with its length, and the bench's world after
+-- whether it waits, whether the record was bad, how many bytes it says it has, the line with its length, and the bench's world after
 pub record Stepped : Type 0 where
   pub waits : Bool
   pub bad : Bool

@@ -3,13 +3,7 @@ mod lines;
 mod playing;
 
 ghost use mathlib.Core.Path.{_≡_};
-ghost use mathlib.Core.Bool.{cond};
-ghost use mathlib.Core.List.{List};
-ghost use Prim.Native.Nat.{ℕ};
 ghost use Rattle.house.specs.World.{world};
-ghost use Rattle.text.specs.Ink.{ink, putAll};
-ghost use Rattle.player.specs.Playing.{spoken};
-ghost use Rattle.player.specs.Lines.{lineOf};
 ghost use Rattle.player.specs.Steps.{stepped, stepOf};
 use state::State;
 
@@ -18,9 +12,9 @@ pub struct Progress {
     pub waits: bool,
     // a bad record: the run stops
     pub bad: bool,
-    // how many bytes the record has
+    // how many bytes the record says it has: of a bad one it may be more than there are
     pub used: usize,
-    // the length of the line
+    // how many bytes its line has
     pub length: usize,
     pub state: State,
 }

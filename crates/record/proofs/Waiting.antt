@@ -10,7 +10,7 @@ use lib.Dec.{leb, ltb, eqb}
 use lib.ListN.{length, length-append, List·getD-append}
 use Rattle.disc.proofs.Truth.{both, neither}
 use Rattle.packet.specs.Fields.{byteAt}
-use Rattle.record.specs.Records.{Row, fieldOf, lengthField, kindField, wholeB, insertionOf, pullOf, twoBytes, saidBy, scriptRows, recordOf}
+use Rattle.record.specs.Records.{Row, fieldOf, lengthField, kindField, wholeB, insertRecord, pullRecord, twoBytes, saidBy, scriptRows, recordOf}
 use Rattle.record.specs.Waiting.{enoughB, EnoughTells, FewCome}
 use Rattle.record.proofs.Holding.{whole}
 use Rattle.record.specs.declared.Record.{Record}
@@ -100,14 +100,14 @@ module _ (bytes more : List ℕ) (c : Come bytes) where
   unfolding recordOf scriptRows
   same =
       all-said (bytes ++ more) bytes (fields bytes more 2 3 (omega (arith, c .header)) (omega (arith, c .header))) scriptRows (
-        six insertionOf 1,
+        six insertRecord 1,
         (
           record { whole = alike 4 4 (omega arith); says = λ _. refl },
           (
             record { whole = alike 16 16 (omega arith); says = λ _. refl },
             (
               record { whole = alike 4 516 (omega arith); says = λ _. rw long },
-              (six pullOf 5, tt),
+              (six pullRecord 5, tt),
             ),
           ),
         ),

@@ -28,16 +28,16 @@ abbrev pub ifWhole : ℕ → ℕ → List ℕ → Record → Record
 ifWhole least most bytes r = cond (wholeB least most bytes) r Bad
 
 -- "insert (disc number, protection 0 or 1)"; "with protection above 1 .. is bad"
-abbrev pub insertionOf : ℕ → ℕ → Record
-insertionOf number protection = cond (leb protection 1) (Insert number (eqb protection 1)) Bad
+abbrev pub insertRecord : ℕ → ℕ → Record
+insertRecord number protection = cond (leb protection 1) (Insert number (eqb protection 1)) Bad
 
 -- "feed (0 to 512 bytes)"
-abbrev pub feedOf : List ℕ → Record
-feedOf bytes = Feed (lengthField bytes - 4)
+abbrev pub feedRecord : List ℕ → Record
+feedRecord bytes = Feed (lengthField bytes - 4)
 
 -- "pull (2-byte little-endian count, at most 512)"; "a pull above 512 is bad"
-abbrev pub pullOf : ℕ → ℕ → Record
-pullOf low high = cond (leb (fieldOf low high) 512) (Pull (fieldOf low high)) Bad
+abbrev pub pullRecord : ℕ → ℕ → Record
+pullRecord low high = cond (leb (fieldOf low high) 512) (Pull (fieldOf low high)) Bad
 
 -- the two bytes after length and kind
 abbrev pub twoBytes : (ℕ → ℕ → Record) → List ℕ → Record
@@ -56,11 +56,11 @@ row kind least most says = record { kind = kind; least = least; most = most; say
 -- "Kinds: 1 insert ..; 2 eject; 3 command (12 bytes); 4 feed ..; 5 pull ..", each with the 4 bytes of length and kind before it
 unfoldable pub scriptRows : List Row
 scriptRows =
-    row 1 6 6 (twoBytes insertionOf)
+    row 1 6 6 (twoBytes insertRecord)
     ∷ row 2 4 4 (λ _. Eject)
     ∷ row 3 16 16 (λ _. Command)
-    ∷ row 4 4 516 feedOf
-    ∷ row 5 6 6 (twoBytes pullOf)
+    ∷ row 4 4 516 feedRecord
+    ∷ row 5 6 6 (twoBytes pullRecord)
     ∷ []
 
 -- "of another kind .. is bad"

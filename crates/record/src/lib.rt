@@ -3,7 +3,7 @@ ghost use mathlib.Core.Path.{_≡_};
 ghost use mathlib.Core.Bool.{cond};
 ghost use Prim.Native.Nat.{_-_};
 ghost use Rattle.record.specs.declared.Record.the-variants.{Bad};
-ghost use Rattle.record.specs.Records.{fieldOf, lengthField, kindField, wholeB, ifWhole, insertionOf, pullOf, recordOf};
+ghost use Rattle.record.specs.Records.{fieldOf, lengthField, kindField, wholeB, ifWhole, insertRecord, pullRecord, recordOf};
 ghost use Rattle.record.specs.Waiting.{enoughB};
 use packet::byte;
 
@@ -24,7 +24,14 @@ pub enum Record {
 // Length and kind.
 pub const HEADER_BYTES: usize = 4;
 
+// The whole length of each kind that has but one.
+const INSERT_BYTES: usize = 6;
+
+const EJECT_BYTES: usize = 4;
+
 pub const COMMAND_BYTES: usize = 16;
+
+const PULL_BYTES: usize = 6;
 
 // The most that a pull may ask for, and the most bytes of a piece.
 pub const PIECE_BYTES: usize = 512;
@@ -90,7 +97,7 @@ fn if_whole(bytes: &[u8], least: usize, most: usize, told: Record) -> Record
 }
 
 fn insertion(number: u8, protection: u8) -> Record
-    ensures { λ r. ⌜ r ≡ insertionOf number protection ⌝ }
+    ensures { λ r. ⌜ r ≡ insertRecord number protection ⌝ }
 {
     if_good(protection <= 1, Record::Insert(number, protection == 1))
 }
@@ -108,7 +115,7 @@ fn after_header(bytes: &[u8]) -> usize
 }
 
 fn pull(low: u8, high: u8) -> Record
-    ensures { λ r. ⌜ r ≡ pullOf low high ⌝ }
+    ensures { λ r. ⌜ r ≡ pullRecord low high ⌝ }
 {
     let count = field(low, high);
     if_good(count <= PIECE_BYTES, Record::Pull(count))
@@ -120,8 +127,13 @@ pub fn first_record(bytes: &[u8]) -> Record
 {
     let kind = kind_field(bytes);
     match kind {
-        INSERT => if_whole(bytes, 6, 6, insertion(byte(bytes, 4), byte(bytes, 5))),
-        EJECT => if_whole(bytes, HEADER_BYTES, HEADER_BYTES, Record::Eject),
+        INSERT => if_whole(
+            bytes,
+            INSERT_BYTES,
+            INSERT_BYTES,
+            insertion(byte(bytes, 4), byte(bytes, 5)),
+        ),
+        EJECT => if_whole(bytes, EJECT_BYTES, EJECT_BYTES, Record::Eject),
         COMMAND => if_whole(bytes, COMMAND_BYTES, COMMAND_BYTES, Record::Command),
         FEED => if_whole(
             bytes,
@@ -129,7 +141,12 @@ pub fn first_record(bytes: &[u8]) -> Record
             RECORD_BYTES,
             Record::Feed(after_header(bytes)),
         ),
-        PULL => if_whole(bytes, 6, 6, pull(byte(bytes, 4), byte(bytes, 5))),
+        PULL => if_whole(
+            bytes,
+            PULL_BYTES,
+            PULL_BYTES,
+            pull(byte(bytes, 4), byte(bytes, 5)),
+        ),
         _ => Record::Bad,
     }
 }

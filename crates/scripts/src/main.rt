@@ -74,7 +74,7 @@ fn no_byte(next: usize) -> Token
     }
 }
 
-fn unread(next: usize) -> Token
+fn unreadable(next: usize) -> Token
     ensures { λ r. ⌜ r .next ≡ next ⌝ }
 {
     Token {
@@ -153,15 +153,15 @@ fn read_byte(line: &[u8], at: usize) -> Token
     ensures { λ r. ⌜ at < r .next ⌝ }
 {
     if line.len() - at < 2 {
-        return unread(at + 1);
+        return unreadable(at + 1);
     }
     let high = hex_digit(line[at]);
     let low = hex_digit(line[at + 1]);
     if 15 < high {
-        return unread(at + 1);
+        return unreadable(at + 1);
     }
     if 15 < low {
-        return unread(at + 1);
+        return unreadable(at + 1);
     }
     read_count(line, at + 2, high * 16 + low)
 }
@@ -231,7 +231,7 @@ fn play_all(text: &[u8], script: &mut [u8]) {
         if script.len() <= length {
             io::write_all(
                 STDERR_FILENO,
-                b"scripts: no bytes, or more than a script may have: ",
+                b"scripts: this line cannot be read, or makes its script too long: ",
             );
             io::write_all(STDERR_FILENO, &text[at..end]);
             return;
@@ -245,8 +245,12 @@ fn main() {
     let mut text = [0u8; TEXT_BYTES];
     let mut script = [0u8; SCRIPT_ROOM];
     let size = io::read_full(STDIN_FILENO, &mut text);
-    if size == TEXT_BYTES {
-        io::write_all(STDERR_FILENO, b"scripts: the text is too long\n");
+    // at the end of the input one read more brings nothing
+    if libc::read(STDIN_FILENO, &mut script) != 0 {
+        io::write_all(
+            STDERR_FILENO,
+            b"scripts: the text is too long, or cannot be read\n",
+        );
         return;
     }
     play_all(&text[..size], &mut script);

@@ -2,7 +2,7 @@
 ghost use mathlib.Core.Path.{_≡_};
 ghost use Prim.Native.Nat.{_<_};
 ghost use mathlib.Core.List.{_∷_, []};
-ghost use Rattle.text.specs.Numbers.{glyphOf, hexOf, hexesOf, digitsBefore, decimalOf};
+ghost use Rattle.text.specs.Numbers.{glyphOf, hexOf, hexesOf, decimalOf};
 ghost use Rattle.text.specs.Ink.{ink, putAll};
 
 // A line that is full is left as it is.

@@ -4,9 +4,10 @@ use native.Mathlib.Omega.{arith}
 use borrow.Author.Needs.{needs}
 use lib.ListN.{length}
 use lib.Seq.{length-take-le}
+use Rattle.disc.proofs.Truth.{both}
 use Rattle.bench.specs.Windows.{doneOf}
 use Rattle.bench.proofs.Keeping.{unread-long}
-use Rattle.bench.proofs.Turning.{line-there, done-within, few-left, first-true}
+use Rattle.bench.proofs.Turning.{line-there, done-within, few-left}
 use Rattle.bench.proofs.turn.Statement.{statement}
 use Rattle.bench.proofs.turn.Tie as tie
 
@@ -40,7 +41,7 @@ returns c =
     let ahead = left after in
     let long = unread-long (x .run .from) (x .run .upto) (x .window .now) (start .pre) in (
       record { within = omega (arith, ahead, from, upto); there = omega (arith, upto, start .pre .there) },
-      (λ t. let few = few-left _ _ _ _ _ (after .step .result) _ _ _ (after .step .ensures) (first-true _ _ (sym waits ∙ t)) in
+      (λ t. let few = few-left _ _ _ _ _ (after .step .result) _ _ _ (after .step .ensures) (both _ _ (sym waits ∙ t) .0) in
           omega (arith, few, long, from, upto)),
     )
 
