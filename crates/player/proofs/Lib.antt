@@ -3,4 +3,3 @@ pub mod Lending
 pub mod Stepping
 pub mod Lengths
 pub mod Theorems
-pub mod Runs

@@ -2,4 +2,3 @@ pub mod Playing
 pub mod Lines
 pub mod Steps
 pub mod Theorems
-pub mod Runs

@@ -16,13 +16,13 @@ use Rattle.record.specs.Waiting.{enoughB}
 use Rattle.record.proofs.Waiting.{enough-tells}
 use Rattle.record.proofs.Holding.{all-hold}
 use Rattle.disc.proofs.Truth.{neither}
 use Rattle.player.specs.Playing.{Said, saidOf}
 use Rattle.player.specs.Lines.{lineOf}
 use Rattle.player.specs.Steps.{readyB}
-use Rattle.player.specs.Runs.{linesFrom, linesOf, reading, joined, AnyReads}
+use Rattle.runs.specs.Runs.{linesFrom, linesOf, reading, joined, AnyReads}
 use Rattle.player.proofs.Lengths.{fits-line}
 use Rattle.player.proofs.Stepping.{waits, plays}
 use Rattle.player.proofs.Theorems.{there, alike, or-false}
 
 -- the bytes that are still to come
 abbrev coming : Bool → List (List ℕ) → List ℕ

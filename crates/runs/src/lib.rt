@@ -1,0 +1,1 @@
+// No code: what a whole script prints, however it comes.
