@@ -15,7 +15,7 @@ use Rattle.sound.proofs.Keeps.{parts}
 use Rattle.sound.proofs.Transfers.{on-disc, writes}
 use Rattle.house.specs.World.{World, world}
 use Rattle.house.proofs.Houses.{insert-admits}
-use Rattle.moves.specs.Feeds.{writing}
+use Rattle.feeds.specs.Feeds.{writing}
 use Rattle.demands.specs.Device.{Insert, Eject, callOf}
 use Rattle.demands.specs.Answered.{houseOf}
 use Rattle.demands.specs.Ledger.{Store, Ledger, noted}

@@ -22,7 +22,7 @@ use Rattle.house.proofs.Houses.{command-admits}
 use Rattle.commands.specs.Commands.{obeyedOf, commandOf}
 use Rattle.commands.proofs.Entering.{let-in}
 use Rattle.moves.specs.Moves.{Moved}
-use Rattle.moves.specs.Pulls.{Pulled}
+use Rattle.pulls.specs.Pulls.{Pulled}
 use Rattle.drive.specs.Theorems.{Command as Obey, Feed as Take, Pull as Fill}
 use Rattle.drive.proofs.Keeps.{insert-keeps, eject-keeps, command-keeps}
 use Rattle.drive.proofs.Moving.{feed-keeps, pull-keeps}

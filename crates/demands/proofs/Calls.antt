@@ -15,8 +15,8 @@ use Rattle.house.proofs.Houses.{command-admits}
 use Rattle.commands.specs.Events.{event, insertOf, ejectOf}
 use Rattle.commands.specs.Commands.{obeyedOf}
 use Rattle.commands.proofs.Entering.{let-in}
-use Rattle.moves.specs.Feeds.{feedOf}
-use Rattle.moves.specs.Pulls.{pullOf}
+use Rattle.feeds.specs.Feeds.{feedOf}
+use Rattle.pulls.specs.Pulls.{pullOf}
 use Rattle.demands.specs.Device.{Call, Insert, Eject, Command, Feed, Pull, Reply, happens, obeys, moves, callOf}
 use Rattle.demands.specs.Answered.{houseOf, refusal}
 use Rattle.demands.proofs.Answered.{refused}

@@ -15,7 +15,8 @@ use Rattle.sound.proofs.Keeps.{parts}
 use Rattle.sound.proofs.Transfers.{in-buffer, on-disc, writes}
 use Rattle.house.specs.World.{World}
 use Rattle.house.specs.Theorems.{Ready}
-use Rattle.moves.proofs.Entering.{feeds as fed, pulls as pulled}
+use Rattle.feeds.proofs.Entering.{feeds as fed}
+use Rattle.pulls.proofs.Entering.{pulls as pulled}
 use Rattle.demands.specs.Device.{Call, Feed, Pull, Device}
 use Rattle.demands.specs.Uncut.{Lent, lent, lendAll, CutAnywhere}
 use Rattle.demands.proofs.Lending.{

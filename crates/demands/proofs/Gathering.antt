@@ -10,8 +10,8 @@ use borrow.Author.Tests.{eqb-true, eqb-false}
 use lib.Dec.{eqb}
 use lib.ListN.{length, take, set, length-set, length-append}
 use lib.Seq.{paste, take-all, take-suc-set}
-use Rattle.moves.specs.Feeds.{Writing, writing, feedByte, feedBytes}
-use Rattle.moves.proofs.Feeding.{feed-inside, feed-last, byte-lengths}
+use Rattle.feeds.specs.Feeds.{Writing, writing, feedByte, feedBytes}
+use Rattle.feeds.proofs.Feeding.{feed-inside, feed-last, byte-lengths}
 use Rattle.demands.specs.Ledger.{Store, store, gatherByte, gather}
 use Rattle.demands.proofs.Blocks.{Even, even-length, set-even, set-block}
 

@@ -18,10 +18,11 @@ use Rattle.state.specs.declared.Transfer.the-variants.{Closed, Answer, Read, Wr
 use Rattle.house.specs.World.{World, world}
 use Rattle.house.specs.Theorems.{Ready}
 use Rattle.moves.specs.Moves.{unmovedOf}
-use Rattle.moves.specs.Feeds.{Writing, writing, feedByte, feedBytes, takenOf, feedingOf, feedOf}
-use Rattle.moves.specs.Pulls.{pulled, pullingOf, pullOf}
-use Rattle.moves.proofs.Feeding.{feed-append}
-use Rattle.moves.proofs.Entering.{feeds, pulls}
+use Rattle.feeds.specs.Feeds.{Writing, writing, feedByte, feedBytes, takenOf, feedingOf, feedOf}
+use Rattle.feeds.proofs.Feeding.{feed-append}
+use Rattle.feeds.proofs.Entering.{feeds}
+use Rattle.pulls.specs.Pulls.{pulled, pullingOf, pullOf}
+use Rattle.pulls.proofs.Entering.{pulls}
 use Rattle.drive.specs.Theorems.{Feed as FeedCall, Pull as PullCall}
 use Rattle.drive.proofs.Kept.{call-ready}
 use Rattle.demands.specs.Device.{Call, Feed, Pull, Device, callOf, drive}

@@ -14,9 +14,11 @@ use Rattle.state.specs.States.{movedOf}
 use Rattle.house.specs.World.{World, world}
 use Rattle.house.specs.Theorems.{Ready}
 use Rattle.moves.specs.Moves.{answerAfter, discAfter}
-use Rattle.moves.specs.Feeds.{writing, feedBytes, takenOf, feedingOf}
-use Rattle.moves.specs.Pulls.{pullingOf}
-use Rattle.moves.proofs.Entering.{may-answer, may-read, may-write, feeds, pulls}
+use Rattle.moves.proofs.Entering.{may-answer, may-read, may-write}
+use Rattle.feeds.specs.Feeds.{writing, feedBytes, takenOf, feedingOf}
+use Rattle.feeds.proofs.Entering.{feeds}
+use Rattle.pulls.specs.Pulls.{pullingOf}
+use Rattle.pulls.proofs.Entering.{pulls}
 use Rattle.demands.specs.Device.{Feed, Pull, heard, moves, callOf}
 use Rattle.demands.specs.Ledger.{Store, Ledger, ledger, gather, noted}
 use Rattle.demands.specs.Faithful.{foretells}

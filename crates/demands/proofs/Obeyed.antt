@@ -14,8 +14,8 @@ use Rattle.state.specs.States.{withTransfer, movedOf}
 use Rattle.house.specs.World.{World, world}
 use Rattle.house.specs.Theorems.{Ready}
 use Rattle.house.proofs.Houses.{ready-in}
-use Rattle.moves.specs.Feeds.{takenOf, feedingOf, feedOf}
-use Rattle.moves.proofs.Entering.{feeds as feeds-by}
+use Rattle.feeds.specs.Feeds.{takenOf, feedingOf, feedOf}
+use Rattle.feeds.proofs.Entering.{feeds as feeds-by}
 use Rattle.drive.proofs.Moving.{feed-keeps}
 use Rattle.drive.proofs.Refusing.{feed-refuses}
 use Rattle.demands.specs.Device.{Command, Feed, Pull, Device, callOf, drive}

@@ -40,7 +40,7 @@ use Rattle.house.specs.World.{World, world}
 use Rattle.house.specs.Theorems.{Ready}
 use Rattle.house.proofs.Houses.{command-admits}
 use Rattle.commands.specs.Commands.{spanOf, routineOf, performedOf, obeyedOf}
-use Rattle.moves.specs.Feeds.{writing}
+use Rattle.feeds.specs.Feeds.{writing}
 use Rattle.demands.specs.Device.{Command, obeys, callOf}
 use Rattle.demands.specs.Answered.{houseOf}
 use Rattle.demands.specs.Ledger.{store, Ledger, ledger, told, known, opened, noted}

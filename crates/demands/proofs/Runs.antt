@@ -21,8 +21,8 @@ use Rattle.house.specs.World.{World, world}
 use Rattle.house.specs.House.{lentTests, commandTests, insertTests}
 use Rattle.commands.specs.Events.{insertOf}
 use Rattle.commands.specs.Commands.{spanOf, performedOf, commandOf}
-use Rattle.moves.specs.Feeds.{feedingOf, feedOf}
-use Rattle.moves.specs.Pulls.{pullOf}
+use Rattle.feeds.specs.Feeds.{feedingOf, feedOf}
+use Rattle.pulls.specs.Pulls.{pullOf}
 use Rattle.drive.specs.Cases.{lengthAt7, bytes2And4}
 use Rattle.demands.proofs.Foretelling.{foretold-accepted}
 use Rattle.demands.specs.Device.{Call, Insert, Command, Feed, Pull, Heard, Reply, reply, Device, moves, callOf}

@@ -11,7 +11,7 @@ use Rattle.disc.specs.Formats.{bufferBytes, formatOf, blockBytes}
 use Rattle.state.specs.declared.Sense.{Sense}
 use Rattle.answer.specs.Bytes.{zeros}
 use Rattle.house.specs.World.{World}
-use Rattle.moves.specs.Feeds.{takenOf}
+use Rattle.feeds.specs.Feeds.{takenOf}
 use Rattle.demands.specs.Device.{Call, Insert, Command, Feed, Pull, Reply, Device, after, Heard}
 use Rattle.demands.specs.Answered.{Judged}
 use Rattle.demands.specs.Ledger.{store, blocksOf, gather, noted}

@@ -9,8 +9,8 @@ use Rattle.house.specs.World.{World, world}
 use Rattle.commands.specs.Events.{Happened, insertOf, ejectOf}
 use Rattle.commands.specs.Commands.{Commanded, commandOf}
 use Rattle.moves.specs.Moves.{Moved}
-use Rattle.moves.specs.Feeds.{feedOf}
-use Rattle.moves.specs.Pulls.{pullOf}
+use Rattle.feeds.specs.Feeds.{feedOf}
+use Rattle.pulls.specs.Pulls.{pullOf}
 
 -- a call with what is lent for it: a disc with its number and protection, a packet, a piece, the caller's buffer
 pub data Call : Type 0 where

@@ -21,8 +21,8 @@ use Rattle.answer.specs.Giving.{answerOf, allocationOf, giveOf}
 use Rattle.house.specs.World.{world}
 use Rattle.house.specs.House.{lentTests, commandTests}
 use Rattle.commands.specs.Commands.{Commanded, spanOf, performedOf, commandOf}
-use Rattle.moves.specs.Feeds.{takenOf, feedOf}
-use Rattle.moves.proofs.Feeding.{share-part}
+use Rattle.feeds.specs.Feeds.{takenOf, feedOf}
+use Rattle.feeds.proofs.Feeding.{share-part}
 use Rattle.drive.specs.Cases.{plain, lengthAt7, bytes2And4, cases, outcome, expected, Starred}
 
 module _ (disc : List ℕ) (d : length disc ≡ 1474560) where

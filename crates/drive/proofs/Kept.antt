@@ -30,10 +30,12 @@ use Rattle.house.proofs.Houses.{noneB, insert-admits}
 use Rattle.commands.specs.Events.{event, unlessRefused, insertOf, ejectOf}
 use Rattle.commands.specs.Commands.{routineOf, performedOf, obeyedOf, commandOf}
 use Rattle.moves.specs.Moves.{discAfter}
-use Rattle.moves.specs.Feeds.{writing, takenOf, feedingOf, feedOf}
-use Rattle.moves.specs.Pulls.{pullingOf, pullOf}
-use Rattle.moves.proofs.Feeding.{feed-lengths}
-use Rattle.moves.proofs.Entering.{may-write, feeds, pulls}
+use Rattle.moves.proofs.Entering.{may-write}
+use Rattle.feeds.specs.Feeds.{writing, takenOf, feedingOf, feedOf}
+use Rattle.feeds.proofs.Feeding.{feed-lengths}
+use Rattle.feeds.proofs.Entering.{feeds}
+use Rattle.pulls.specs.Pulls.{pullingOf, pullOf}
+use Rattle.pulls.proofs.Entering.{pulls}
 use Rattle.drive.specs.Theorems.{Call, Command, Feed, Pull, callOf, CallReady, InsertReady, EjectReady}
 use Rattle.drive.proofs.Keeps.{command-keeps}
 use Rattle.drive.proofs.Moving.{feed-keeps, pull-keeps}

@@ -18,8 +18,8 @@ use Rattle.house.specs.World.{World}
 use Rattle.house.specs.House.{moveHouse}
 use Rattle.house.proofs.Houses.{noneB}
 use Rattle.moves.specs.Moves.{unmovedOf, answerAfter, discAfter}
-use Rattle.moves.specs.Feeds.{takenOf, feedingOf, feedOf}
-use Rattle.moves.specs.Pulls.{pulled, pullingOf, pullOf}
+use Rattle.feeds.specs.Feeds.{takenOf, feedingOf, feedOf}
+use Rattle.pulls.specs.Pulls.{pulled, pullingOf, pullOf}
 use Rattle.drive.specs.Theorems.{FeedKeeps, PullKeeps}
 
 -- ---- n bytes further on, what is left ends where it did

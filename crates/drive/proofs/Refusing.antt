@@ -17,8 +17,8 @@ use Rattle.house.specs.House.{firstRefusal, insertTests, ejectTests, commandHou
 use Rattle.commands.specs.Events.{Happened, event, insertOf, ejectOf}
 use Rattle.commands.specs.Commands.{Commanded, obeyedOf, commandOf}
 use Rattle.moves.specs.Moves.{Moved, unmovedOf}
-use Rattle.moves.specs.Feeds.{feedingOf, feedOf}
-use Rattle.moves.specs.Pulls.{Pulled, pulled, pullingOf, pullOf}
+use Rattle.feeds.specs.Feeds.{feedingOf, feedOf}
+use Rattle.pulls.specs.Pulls.{Pulled, pulled, pullingOf, pullOf}
 use Rattle.drive.specs.Theorems.{Refuses, InsertRefuses, EjectRefuses, CommandRefuses, FeedRefuses, PullRefuses}
 
 module _ {A : Type 0} (number : A → ℕ) where

@@ -7,9 +7,8 @@ use Rattle.house.proofs.Houses.{one-house}
 use Rattle.commands.specs.declared.EventReply.{EventReply}
 use Rattle.commands.specs.Events.{Happened, happened}
 use Rattle.commands.specs.Commands.{Commanded}
-use Rattle.moves.specs.declared.MoveReply.{MoveReply}
-use Rattle.moves.specs.Moves.{Moved, moved}
-use Rattle.moves.specs.Pulls.{Pulled}
+use Rattle.moves.proofs.Single.{one-move}
+use Rattle.pulls.specs.Pulls.{Pulled}
 use Rattle.drive.specs.Theorems.{OnePowerOn, OneInsertion, OneEjection, OneCommand, OneFeed, OnePull}
 
 one-event : (w : World) (disc : List ℕ) (r q : EventReply) → happened r w disc ≡ happened q w disc → r ≡ q
@@ -34,16 +33,6 @@ one-command w p r q b c e f =
     let passed = ap (λ (h : Commanded). h .passed) same in
     let state = ap (λ (h : Commanded). h .world .state) same in
     (λ i. record { house = house i; passed = passed i; state = state i }, ap (λ (h : Commanded). h .world .buffer) same)
-
-one-move : (r q : MoveReply) (b c d e : List ℕ) → moved r b d ≡ moved q c e → (r ≡ q) × (b ≡ c) × (d ≡ e)
-one-move r q b c d e same =
-    let house = one-house (r .house) (q .house) (ap (λ (m : Moved). m .house) same) in
-    let count = ap (λ (m : Moved). m .count) same in
-    let state = ap (λ (m : Moved). m .world .state) same in (
-      λ i. record { house = house i; count = count i; state = state i },
-      ap (λ (m : Moved). m .world .buffer) same,
-      ap (λ (m : Moved). m .world .disc) same,
-    )
 
 pub one-feed : OneFeed
 one-feed w piece r q b c d e f g = one-move r q b c d e (f ∙ sym g)

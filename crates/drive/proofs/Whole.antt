@@ -13,10 +13,11 @@ use lib.Seq.{paste, length-take-le, length-paste, take-at, take-suc-set, append-
 use Rattle.disc.specs.Formats.{blockBytes, runBytes, placeOf}
 use Rattle.disc.proofs.Truth.{both}
 use Rattle.disc.proofs.Table.{block-fits, block-holds}
-use Rattle.moves.specs.Feeds.{writing, feedByte, feedBytes, takenOf}
 use Rattle.moves.proofs.Parts.{paste-same, paste-before, paste-after}
-use Rattle.moves.proofs.Feeding.{feed-inside, feed-last}
-use Rattle.moves.proofs.Entering.{may-write, feeds}
+use Rattle.moves.proofs.Entering.{may-write}
+use Rattle.feeds.specs.Feeds.{writing, feedByte, feedBytes, takenOf}
+use Rattle.feeds.proofs.Feeding.{feed-inside, feed-last}
+use Rattle.feeds.proofs.Entering.{feeds}
 use Rattle.drive.specs.Theorems.{Room, completesB, gatheredOf, OnlyAtTheLastByte, AllOldOrAllNew, FedAllOldOrAllNew}
 
 -- ---- blocks of b bytes

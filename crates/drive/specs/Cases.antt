@@ -14,7 +14,7 @@ use Rattle.state.specs.States.{stateOf, withTransfer}
 use Rattle.answer.specs.Bytes.{be2, be4}
 use Rattle.house.specs.World.{world}
 use Rattle.commands.specs.Commands.{commandOf}
-use Rattle.moves.specs.Feeds.{feedOf}
+use Rattle.feeds.specs.Feeds.{feedOf}
 
 -- "Disc 3, no flags, unless said"
 abbrev pub plain : State

@@ -30,8 +30,8 @@ use Rattle.commands.specs.Commands.{Commanded, commanded, commandOf}
 use Rattle.moves.specs.declared.MoveReply.{MoveReply}
 use Rattle.moves.specs.Places.{LentDisc}
 use Rattle.moves.specs.Moves.{Moved, moved}
-use Rattle.moves.specs.Feeds.{Writing, writing, feedByte, feedBytes, feedOf}
-use Rattle.moves.specs.Pulls.{Pulled, pulled, pullOf}
+use Rattle.feeds.specs.Feeds.{Writing, writing, feedByte, feedBytes, feedOf}
+use Rattle.pulls.specs.Pulls.{Pulled, pulled, pullOf}
 
 -- ---- "Every call keeps soundness."
 

@@ -1,4 +1,3 @@
 pub mod Places
 pub mod Moves
-pub mod Feeds
-pub mod Pulls
+pub mod Theorems

@@ -15,8 +15,8 @@ use Rattle.house.specs.World.{World, world}
 use Rattle.house.specs.House.{numberOf, moveHouse}
 use Rattle.commands.specs.Commands.{Commanded, commanded, commandOf}
 use Rattle.moves.specs.Moves.{Moved, moved, unmovedOf}
-use Rattle.moves.specs.Feeds.{feedOf}
-use Rattle.moves.specs.Pulls.{Pulled, pulled, pullingOf, pullOf}
+use Rattle.feeds.specs.Feeds.{feedOf}
+use Rattle.pulls.specs.Pulls.{Pulled, pulled, pullingOf, pullOf}
 use Rattle.commands.specs.declared.CommandReply.{CommandReply}
 use Rattle.moves.specs.declared.MoveReply.{MoveReply}
 use Rattle.record.specs.declared.Record.{Record}

@@ -7,7 +7,7 @@ use native.Mathlib.Omega.{arith}
 use lib.Dec.{ltb}
 use lib.ListN.{length, replicate, length-append, length-take, length-replicate}
 use Rattle.house.specs.World.{World}
-use Rattle.moves.specs.Pulls.{pullOf}
+use Rattle.pulls.specs.Pulls.{pullOf}
 use Rattle.text.specs.Numbers.{hexesOf, decimalOf}
 use Rattle.text.proofs.Reading.{few-digits}
 use Rattle.record.specs.declared.Record.{Record}

@@ -9,8 +9,8 @@ use Rattle.house.specs.World.{World, world}
 use Rattle.commands.specs.Events.{Happened, insertOf, ejectOf}
 use Rattle.commands.specs.Commands.{commandOf}
 use Rattle.moves.specs.Moves.{Moved}
-use Rattle.moves.specs.Feeds.{feedOf}
-use Rattle.moves.specs.Pulls.{pullOf}
+use Rattle.feeds.specs.Feeds.{feedOf}
+use Rattle.pulls.specs.Pulls.{pullOf}
 use Rattle.player.specs.declared.Outcome.{Outcome}
 use Rattle.record.specs.declared.Record.{Record}
 use Rattle.record.specs.declared.Record.the-variants.{Insert, Eject, Command, Feed, Pull, Bad}

@@ -4,7 +4,7 @@ use lib.ListN.{length}
 use lib.Seq.{length-take-le}
 use Rattle.house.specs.World.{world}
 use Rattle.player.proofs.Lending.{lent-within, speaks, pull-said, count-within}
-use Rattle.moves.specs.Pulls.{Pulled}
+use Rattle.pulls.specs.Pulls.{Pulled}
 use Rattle.player.specs.declared.Outcome.{Outcome}
 use Rattle.player.proofs.playing.pull.Statement.{statement}
 use Rattle.player.proofs.playing.pull.Tie as tie

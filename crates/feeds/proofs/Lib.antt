@@ -1,0 +1,3 @@
+pub mod Feeding
+pub mod Sharing
+pub mod Entering

@@ -1,0 +1,55 @@
+-- One share of a feed: what the copy into the buffer leaves, and that the share is a run of bytes. Assumes nothing.
+use mathlib.Core.Path.{_≡_, ap}
+use mathlib.Core.List.{List, _++_}
+use Prim.Native.Nat.{ℕ, _≤_, _+_, _-_, _%_, min}
+use native.Mathlib.Omega.{arith}
+use lib.ListN.{length, take, drop, length-drop}
+use lib.Seq.{paste, sets, length-take-le}
+use Rattle.answer.specs.Filling.{Filled, filled, fillOf}
+use Rattle.moves.proofs.Blocks.{Share}
+use Rattle.moves.proofs.Parts.{put-back}
+use Rattle.feeds.specs.Feeds.{writing, feedBytes, taken}
+use Rattle.feeds.proofs.Feeding.{share-part, share-full}
+
+-- the buffer `after` has the first `count` bytes of the piece in the rest of the block
+pub record Copied (b at : ℕ) (piece buffer after : List ℕ) (count : ℕ) : Type 0 where
+  pub share : count ≡ min (length piece) (b - at % b)
+  pub size : length (take count piece) ≡ count
+  pub bytes : after ≡ sets buffer (at % b) (take count piece)
+
+module _ (b at m : ℕ) (s : Share b at m) (piece buffer : List ℕ) (held : b ≤ length buffer) (count : ℕ) where
+  pub copied : (last : List ℕ)
+      → filled count last
+      ≡ fillOf (min (length piece) (length (take (b - at % b) (drop (at % b) buffer)))) piece (take (b - at % b) (drop (at % b) buffer))
+      → Copied b at piece buffer (take (at % b) buffer ++ (last ++ drop (b - at % b) (drop (at % b) buffer))) count
+  copied last e =
+      let part = take (b - at % b) (drop (at % b) buffer) in
+      let inside = s .inside in
+      let l : length part ≡ b - at % b = length-take-le (b - at % b) (drop (at % b) buffer) (simp length-drop (omega arith)) in
+      let n = ap (λ (f : Filled). f .count) e in
+      let size = length-take-le count piece (omega arith) in
+      let start : last ≡ take count piece ++ drop (length (take count piece)) part = rw (size, n) (ap (λ (f : Filled). f .bytes) e) in
+      record {
+        share = rw l at n;
+        size = size;
+        bytes = put-back buffer (take count piece) last (at % b) (b - at % b) (omega arith) (omega arith) start;
+      }
+
+  module _ (after disc : List ℕ) (c : Copied b at piece buffer after count) where
+    -- the share is the piece's first bytes, one by one
+    abbrev Done : List ℕ → Type 0
+    Done disc′ =
+        let n = min (length piece) (b - at % b) in
+        taken count (writing (at + count) after disc′) ≡ taken n (feedBytes b (writing at buffer disc) (take n piece))
+
+    pub part-done : (at % b + count ≡ b → ⊥) → Done disc
+    part-done h =
+        let z = c .size in
+        let n = c .share in
+        let i = s .inside in
+        rw (← n, share-part b at buffer disc (take count piece) (omega arith), z, c .bytes)
+
+    pub full-done : (disc′ : List ℕ) → at % b + count ≡ b → disc′ ≡ paste disc (at - at % b) after b → Done disc′
+    full-done disc′ h e =
+        let z = c .size in
+        rw (← c .share, e, share-full b at buffer disc (take count piece) (s .pos) (omega arith), z, c .bytes)
