@@ -1,5 +1,7 @@
+use mathlib.Core.Path.{_∙_}
 use borrow.Author.Needs.{needs}
 use Rattle.answer.specs.Giving.{giveOf, answerOf, allocationOf}
+use Rattle.answer.proofs.Filling.{put-alike}
 use Rattle.answer.proofs.give.Statement.{statement}
 use Rattle.answer.proofs.give.Tie as tie
 
@@ -7,13 +9,15 @@ returns : tie.Need-returns
 unfolding giveOf answerOf allocationOf
 returns c =
     let answer = c .before .before .before .before .before in
-    rw (answer .before .enum-told .given .1, ← answer .sense-data .ensures) (c .before .before .put .ensures)
+    let x = answer .before .before .before .before .args in
+    rw (answer .before .enum-told .given .1) (c .before .before .put .ensures ∙ put-alike _ _ (answer .sense-data .ensures) (x .allocation) (x .buffer .now))
 
 returns-2 : tie.Need-returns-2
 unfolding giveOf answerOf allocationOf
 returns-2 c =
     let answer = c .before .before .before .before .before in
-    rw (answer .before .enum-told2 .given .1, ← answer .inquiry-data .ensures) (c .before .before .put2 .ensures)
+    let x = answer .before .before .before .before .args in
+    rw (answer .before .enum-told2 .given .1) (c .before .before .put2 .ensures ∙ put-alike _ _ (answer .inquiry-data .ensures) (x .allocation) (x .buffer .now))
 
 returns-3 : tie.Need-returns-3
 unfolding giveOf answerOf allocationOf
@@ -24,13 +28,15 @@ returns-4 : tie.Need-returns-4
 unfolding giveOf answerOf allocationOf
 returns-4 c =
     let answer = c .before .before .before .before .before in
-    rw (answer .before .enum-told4 .given .1, ← answer .capacity-data .ensures) (c .before .before .put3 .ensures)
+    let x = answer .before .before .before .before .args in
+    rw (answer .before .enum-told4 .given .1) (c .before .before .put3 .ensures ∙ put-alike _ _ (answer .capacity-data .ensures) 8 (x .buffer .now))
 
 returns-5 : tie.Need-returns-5
 unfolding giveOf answerOf allocationOf
 returns-5 c =
     let answer = c .before .before .before .before .before in
-    rw (answer .before .enum-told5 .given .1, ← answer .mode-data .ensures) (c .before .before .put4 .ensures)
+    let x = answer .before .before .before .before .args in
+    rw (answer .before .enum-told5 .given .1) (c .before .before .put4 .ensures ∙ put-alike _ _ (answer .mode-data .ensures) (x .allocation) (x .buffer .now))
 
 pub give-spec : {M : Type 1} → statement M
 give-spec =
