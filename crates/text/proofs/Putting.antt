@@ -1,32 +1,33 @@
 -- Putting goes on byte by byte. Assumes nothing.
 use mathlib.Core.Path.{_≡_, refl, sym, ap, _∙_}
+use mathlib.Core.Bool.{Bool, true, false, cond}
 use mathlib.Core.List.{List, [], _∷_, _++_, append-nil, append-assoc}
 use Prim.Native.Nat.{ℕ, suc, _+_, _<_, _≤_}
 use native.Mathlib.Omega.{arith}
 use native.Mathlib.Numerals.{add-one}
 use borrow.Author.Tests.{lt-ltb, ltb-true}
-use mathlib.Core.Bool.{Bool, true, false, cond}
 use lib.Dec.{ltb}
-use lib.ListN.{length, drop, getD, length-append, set, length-set}
+use lib.ListN.{length, drop, getD, length-append, set, length-set, drop-of-length-le}
 use lib.Seq.{drop-cons, set-append-seam}
 use Rattle.text.specs.Ink.{Ink, ink, putByte, putAll, FitsWhole, StaysInLine, OneText}
-use Rattle.text.specs.Numbers.{hexOf, hexesOf}
-
--- one byte of a text, and one byte as digits
-pub one-put : (i : Ink) (text : List ℕ) (j : ℕ) → j < length text
-    → putAll (putAll i (getD text j 0 ∷ [])) (drop (j + 1) text) ≡ putAll i (drop j text)
-unfolding putAll
-one-put i text j h = rw (drop-cons text j 0 h, add-one j)
-
-pub one-hex : (i : Ink) (bytes : List ℕ) (j : ℕ) → j < length bytes
-    → putAll (putAll i (hexOf (getD bytes j 0))) (hexesOf (drop (j + 1) bytes)) ≡ putAll i (hexesOf (drop j bytes))
-unfolding putAll
-one-hex i bytes j h = rw (drop-cons bytes j 0 h, add-one j)
 
 put-append : (i : Ink) (xs ys : List ℕ) → putAll i (xs ++ ys) ≡ putAll (putAll i xs) ys
 unfolding putAll
 put-append i [] ys = refl
 put-append i (x ∷ xs) ys = put-append (putByte i x) xs ys
+
+-- bytes that are said one after the other: one of them, and then the rest
+module _ (say : List ℕ → List ℕ) (one : ℕ → List ℕ) (each : (b : ℕ) (bs : List ℕ) → say (b ∷ bs) ≡ one b ++ say bs) where
+  pub one-said : (i : Ink) (bytes : List ℕ) (j : ℕ) → j < length bytes
+      → putAll (putAll i (one (getD bytes j 0))) (say (drop (j + 1) bytes)) ≡ putAll i (say (drop j bytes))
+  one-said i bytes j h =
+      rw (drop-cons bytes j 0 h, add-one j, each (getD bytes j 0) (drop (suc j) bytes))
+      (sym (put-append i (one (getD bytes j 0)) (say (drop (suc j) bytes))))
+
+-- and none are left
+pub all-said : (say : List ℕ → List ℕ) → say [] ≡ [] → (i : Ink) (bytes : List ℕ) (j : ℕ) → length bytes ≤ j → i ≡ putAll i (say (drop j bytes))
+unfolding putAll
+all-said say none i bytes j h = rw (drop-of-length-le bytes h, none)
 
 -- a text after another
 pub put-then : (i : Ink) (xs ys : List ℕ) (j k : Ink) → j ≡ putAll i xs → k ≡ putAll j ys → k ≡ putAll i (xs ++ ys)

@@ -1,17 +1,17 @@
-use mathlib.Core.Path.{_≡_, refl, sym, ap, _∙_}
-use mathlib.Core.List.{List}
+use mathlib.Core.Path.{_≡_, refl, _∙_}
+use mathlib.Core.List.{List, [], _∷_}
 use Prim.Native.Nat.{ℕ, _-_}
 use native.Mathlib.Omega.{arith}
 use borrow.Author.Needs.{needs}
-use lib.ListN.{length, drop, drop-of-length-le}
+use lib.ListN.{length, drop}
 use Rattle.text.specs.Ink.{ink, putAll}
-use Rattle.text.proofs.Putting.{one-put}
+use Rattle.text.proofs.Putting.{one-said, all-said}
 use Rattle.text.proofs.put_all.Statement.{statement}
 use Rattle.text.proofs.put_all.Tie as tie
 
 abbrev Inv-loop : tie.InvT-loop
 Inv-loop line₀ text at next₀ i₀ line next i =
-    (length line ≡ length line₀) × (putAll (ink next line) ((drop i text)) ≡ putAll (ink at line₀) (text))
+    (length line ≡ length line₀) × (putAll (ink next line) (drop i text) ≡ putAll (ink at line₀) text)
 
 abbrev μ-loop : tie.MeasureT-loop
 μ-loop line₀ text at next₀ i₀ line next i = length text - i
@@ -20,19 +20,13 @@ loop-again : tie.Need-loop-again Inv-loop μ-loop
 loop-again c =
     let call = c .before .before in
     let turn = call .before .before .before in
-    let at-loop = turn .before in
-    let text = at-loop .before .before .before .args .text .now in (
-      call .put .kept .0 ∙ at-loop .loop .inv .0,
-      rw (call .put .ensures) (one-put (ink (at-loop .loop .next) (at-loop .loop .line)) text (at-loop .loop .i) (turn .loop-test .taken) ∙ at-loop .loop .inv .1),
+    let l = turn .before .loop in (
+      call .put .kept .0 ∙ l .inv .0,
+      rw (call .put .ensures) (one-said (λ (bytes : List ℕ). bytes) (λ (b : ℕ). b ∷ []) (λ _ _. refl) (ink (l .next) (l .line)) _ (l .i) (turn .loop-test .taken) ∙ l .inv .1),
     )
 
 returns : tie.Need-returns Inv-loop μ-loop
-unfolding putAll
-returns c =
-    let at-loop = c .before in
-    let text = at-loop .before .before .before .args .text .now in
-    ap (λ (rest : List ℕ). putAll (ink (at-loop .loop .next) (at-loop .loop .line)) rest) (sym (drop-of-length-le text (c .loop-test .left)))
-    ∙ at-loop .loop .inv .1
+returns c = all-said (λ (bytes : List ℕ). bytes) refl _ _ _ (c .loop-test .left) ∙ c .before .loop .inv .1
 
 pub put-all-spec : {M : Type 1} → statement M
 put-all-spec =

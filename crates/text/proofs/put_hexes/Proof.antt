@@ -1,12 +1,11 @@
-use mathlib.Core.Path.{_≡_, refl, sym, ap, _∙_}
-use mathlib.Core.List.{List}
-use Prim.Native.Nat.{ℕ, _-_}
+use mathlib.Core.Path.{_≡_, refl, _∙_}
+use Prim.Native.Nat.{_-_}
 use native.Mathlib.Omega.{arith}
 use borrow.Author.Needs.{needs}
-use lib.ListN.{length, drop, drop-of-length-le}
+use lib.ListN.{length, drop}
 use Rattle.text.specs.Ink.{ink, putAll}
-use Rattle.text.specs.Numbers.{hexesOf}
-use Rattle.text.proofs.Putting.{one-hex}
+use Rattle.text.specs.Numbers.{hexOf, hexesOf}
+use Rattle.text.proofs.Putting.{one-said, all-said}
 use Rattle.text.proofs.put_hexes.Statement.{statement}
 use Rattle.text.proofs.put_hexes.Tie as tie
 
@@ -21,19 +20,13 @@ loop-again : tie.Need-loop-again Inv-loop μ-loop
 loop-again c =
     let call = c .before .before in
     let turn = call .before .before .before in
-    let at-loop = turn .before in
-    let bytes = at-loop .before .before .before .args .bytes .now in (
-      call .put-hex .kept .0 ∙ at-loop .loop .inv .0,
-      rw (call .put-hex .ensures) (one-hex (ink (at-loop .loop .next) (at-loop .loop .line)) bytes (at-loop .loop .i) (turn .loop-test .taken) ∙ at-loop .loop .inv .1),
+    let l = turn .before .loop in (
+      call .put-hex .kept .0 ∙ l .inv .0,
+      rw (call .put-hex .ensures) (one-said hexesOf hexOf (λ _ _. refl) (ink (l .next) (l .line)) _ (l .i) (turn .loop-test .taken) ∙ l .inv .1),
     )
 
 returns : tie.Need-returns Inv-loop μ-loop
-unfolding putAll
-returns c =
-    let at-loop = c .before in
-    let bytes = at-loop .before .before .before .args .bytes .now in
-    ap (λ (rest : List ℕ). putAll (ink (at-loop .loop .next) (at-loop .loop .line)) (hexesOf rest)) (sym (drop-of-length-le bytes (c .loop-test .left)))
-    ∙ at-loop .loop .inv .1
+returns c = all-said hexesOf refl _ _ _ (c .loop-test .left) ∙ c .before .loop .inv .1
 
 pub put-hexes-spec : {M : Type 1} → statement M
 put-hexes-spec =
