@@ -1,3 +1,1 @@
-pub mod Filling
-pub mod Lengths
-pub mod Single
+pub mod Given

@@ -1,11 +1,8 @@
 -- Paper 01, "Answers from the block buffer": the five answers, whole.
-use mathlib.Core.Bool.{Bool, cond}
-use mathlib.Core.List.{List, _∷_, _++_}
-use Prim.Native.Nat.{ℕ, _-_}
-use lib.Dec.{eqb}
+use Rattle.ground.specs.Kit.{Bool, cond, List, _∷_, _++_, ℕ, _-_, eqb}
 use Rattle.disc.specs.Formats.{formatOf, heads}
 use Rattle.state.specs.declared.Sense as sense
-use Rattle.answer.specs.Bytes.{zeros, be2, be3, be4, text}
+use Rattle.ground.specs.Bytes.{zeros, be2, be3, be4, text}
 
 -- "03, 18 bytes: 70, 0, key, four 0, 0A, four 0, code, qualifier, four 0."
 unfoldable pub senseData : sense.Sense → List ℕ

@@ -1,12 +1,11 @@
 -- Paper 01, "Answers from the block buffer": how an answer gets there.
-use mathlib.Core.List.{List}
-use Prim.Native.Nat.{ℕ, min}
-use lib.Dec.{eqb}
-use lib.ListN.{length}
-use Rattle.state.specs.declared.State.{State}
-use Rattle.packet.specs.declared.Answering.{Answering}
+use Rattle.ground.specs.Kit.{List, ℕ, _/_, min, eqb, length}
+use Rattle.state.specs.declared.{Media.Media}
+use Rattle.packet.specs.declared.{Answering.Answering}
+use Rattle.ground.specs.Bytes.{byteAt}
+use Rattle.ground.specs.Filling.{Filled, fillOf}
+use Rattle.state.specs.declared.Sense as state
 use Rattle.packet.specs.declared.Answering.the-variants.{Sense, Inquiry, FormatCapacities, Capacity, Mode}
-use Rattle.answer.specs.Filling.{Filled, fillOf}
 use Rattle.answer.specs.Answers.{senseData, inquiryData, capacityData, capacitiesData, modeData}
 
 -- "min(allocation, full size)"; a buffer shorter than that, which the drive never lends, is filled
@@ -18,13 +17,14 @@ shareOf answer allocation buffer = min (min allocation (length answer)) (length 
 abbrev pub putOf : List ℕ → ℕ → List ℕ → Filled
 putOf answer allocation buffer = fillOf (shareOf answer allocation buffer) answer buffer
 
--- each answer, with the page control where it has one; "REQUEST SENSE first takes the old triple as its answer and shows no pending flag"
-unfoldable pub answerOf : Answering → State → ℕ → List ℕ
-answerOf Sense s control = senseData (s .sense)
-answerOf Inquiry s control = inquiryData
-answerOf FormatCapacities s control = capacitiesData (s .disc)
-answerOf Capacity s control = capacityData (s .disc)
-answerOf Mode s control = modeData (s .disc) (s .protected) (eqb control 1)
+-- each answer, by the disc that is in, the old triple ("REQUEST SENSE first takes the old triple as its answer and shows no pending flag")
+-- and the packet, of which 5A has the page control
+unfoldable pub answerOf : Answering → Media → state.Sense → List ℕ → List ℕ
+answerOf Sense m sense p = senseData sense
+answerOf Inquiry m sense p = inquiryData
+answerOf FormatCapacities m sense p = capacitiesData (m .disc)
+answerOf Capacity m sense p = capacityData (m .disc)
+answerOf Mode m sense p = modeData (m .disc) (m .protected) (eqb (byteAt p 2 / 64) 1)
 
 -- 25 has "no allocation field"
 unfoldable pub allocationOf : Answering → ℕ → ℕ
@@ -34,5 +34,5 @@ allocationOf FormatCapacities n = n
 allocationOf Capacity n = 8
 allocationOf Mode n = n
 
-unfoldable pub giveOf : Answering → State → ℕ → ℕ → List ℕ → Filled
-giveOf a s control allocation buffer = putOf (answerOf a s control) (allocationOf a allocation) buffer
+unfoldable pub giveOf : Answering → Media → state.Sense → List ℕ → ℕ → List ℕ → Filled
+giveOf a m sense p allocation buffer = putOf (answerOf a m sense p) (allocationOf a allocation) buffer

@@ -1,5 +1,3 @@
-pub mod Filling
-pub mod Bytes
 pub mod Answers
 pub mod Giving
 pub mod Theorems

@@ -1,14 +1,7 @@
--- What holds of giving an answer; proved in proofs/Single.
-use mathlib.Core.Path.{_≡_}
-use mathlib.Core.List.{List}
-use Prim.Native.Nat.{ℕ}
-use Rattle.state.specs.declared.State.{State}
-use Rattle.packet.specs.declared.Answering.{Answering}
-use Rattle.answer.specs.Filling.{filled}
-use Rattle.answer.specs.Giving.{giveOf}
+-- What holds of giving an answer; proved in proofs/Given.
+use Rattle.ground.specs.Kit.{_≡_, List, ℕ}
+use Rattle.ground.specs.Filling.{Filled, filled}
 
 -- "two answers allowed by the promise are equal": the count and the buffer
 abbrev pub OneGiving : Type 0
-OneGiving =
-    (a : Answering) (s : State) (control allocation : ℕ) (buffer : List ℕ) (r q : ℕ) (b c : List ℕ)
-    → filled r b ≡ giveOf a s control allocation buffer → filled q c ≡ giveOf a s control allocation buffer → (r ≡ q) × (b ≡ c)
+OneGiving = (f : Filled) (r q : ℕ) (b c : List ℕ) → filled r b ≡ f → filled q c ≡ f → (r ≡ q) × (b ≡ c)

@@ -1,13 +1,11 @@
 // The five answers as bytes, and how one is put at the start of the block buffer.
-ghost use mathlib.Core.Path.{_≡_};
-ghost use Prim.Native.Nat.{_-_};
-ghost use mathlib.Core.Bool.{cond};
+ghost use Rattle.ground.specs.Kit.{_≡_, _-_, cond};
 ghost use Rattle.answer.specs.Answers.{senseData, inquiryData, capacityData, withDiscData, withoutDiscData, modeData, capacitiesData};
-ghost use Rattle.answer.specs.Filling.{filled};
+ghost use Rattle.ground.specs.Filling.{filled};
 ghost use Rattle.answer.specs.Giving.{putOf, giveOf};
 use packet::Answering;
+use state::Media;
 use state::Sense;
-use state::State;
 
 // 03
 pub fn sense_data(sense: Sense) -> [u8; 18]
@@ -127,9 +125,8 @@ pub fn mode_data(number: u8, protected: bool, changeable: bool) -> [u8; 40]
 fn put(answer: &[u8], allocation: usize, buffer: &mut [u8]) -> usize
     ensures { λ r. ⌜ filled r (now (buffer .exit)) ≡ putOf (now (answer .entry)) allocation (now (buffer .entry)) ⌝ }
 {
-    let cut = disc::least(allocation, answer.len());
-    let n = disc::least(cut, buffer.len());
-    bytes::copy(&answer[..n], buffer)
+    let cut = ground::least(allocation, answer.len());
+    ground::fill(&answer[..cut], buffer)
 }
 
 fn put_capacities(number: u8, allocation: usize, buffer: &mut [u8]) -> usize
@@ -141,24 +138,29 @@ fn put_capacities(number: u8, allocation: usize, buffer: &mut [u8]) -> usize
     put(&with_disc_data(number), allocation, buffer)
 }
 
-// An answer is put at the start of the buffer, as far as its allocation goes; the count says how far.
+// An answer is put at the start of the buffer, as far as its allocation goes; the count says how far. The packet says what is asked for.
 pub fn give(
     answering: Answering,
-    state: State,
-    control: u8,
+    media: Media,
+    sense: Sense,
+    packet: &[u8],
     allocation: usize,
     buffer: &mut [u8],
 ) -> usize
-    ensures { λ r. ⌜ filled r (now (buffer .exit)) ≡ giveOf answering state control allocation (now (buffer .entry)) ⌝ }
+    ensures { λ r. ⌜ filled r (now (buffer .exit)) ≡ giveOf answering media sense (now (packet .entry)) allocation (now (buffer .entry)) ⌝ }
 {
     match answering {
-        Answering::Sense => put(&sense_data(state.sense), allocation, buffer),
+        Answering::Sense => put(&sense_data(sense), allocation, buffer),
         Answering::Inquiry => put(&inquiry_data(), allocation, buffer),
-        Answering::FormatCapacities => put_capacities(state.disc, allocation, buffer),
-        Answering::Capacity => put(&capacity_data(state.disc), 8, buffer),
+        Answering::FormatCapacities => put_capacities(media.disc, allocation, buffer),
+        Answering::Capacity => put(&capacity_data(media.disc), 8, buffer),
         Answering::Mode => {
-            let data = mode_data(state.disc, state.protected, control == 1);
-            put(&data, allocation, buffer)
+            let control = ground::byte(packet, 2) / 64;
+            put(
+                &mode_data(media.disc, media.protected, control == 1),
+                allocation,
+                buffer,
+            )
         }
     }
 }

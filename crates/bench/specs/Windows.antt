@@ -1,8 +1,5 @@
 -- The window on the input: what was read and is not yet played.
-use mathlib.Core.Bool.{Bool, cond}
-use mathlib.Core.List.{List}
-use Prim.Native.Nat.{ℕ, _-_, _≤_}
-use lib.ListN.{take, drop}
+use Rattle.ground.specs.Kit.{Bool, cond, List, ℕ, _-_, _≤_, take, drop}
 
 -- it ends within the window
 pub record Open (from upto size : ℕ) : Type 0 where

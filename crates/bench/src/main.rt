@@ -4,11 +4,7 @@ use libc::STDIN_FILENO;
 use libc::STDOUT_FILENO;
 use player::Progress;
 use state::State;
-ghost use mathlib.Core.Path.{_≡_};
-ghost use mathlib.Core.List.{_++_};
-ghost use mathlib.Core.Bool.{true, not, _&&_};
-ghost use Prim.Native.Nat.{_+_, _-_, _≤_};
-ghost use lib.ListN.{length, drop};
+ghost use Rattle.ground.specs.Kit.{_≡_, _++_, true, not, _&&_, _+_, _-_, _≤_, length, drop};
 ghost use Rattle.bench.specs.Windows.{Open, unread, doneOf};
 
 // As much as one read may bring.

@@ -1,11 +1,6 @@
 -- What a test of all numbers below a limit says of one number more, and of one that fails. Assumes nothing.
-use mathlib.Core.Path.{_≡_}
-use mathlib.Core.Bool.{Bool, true, false, and-false}
-use mathlib.Core.Logic.{⊎-elim}
-use Prim.Native.Nat.{ℕ, zero, suc, _+_, _<_}
-use native.Mathlib.Nat.{not-suc-le-zero, eq-or-lt-of-le, le-of-suc-le-suc}
-use native.Mathlib.Numerals.{add-one}
-use Rattle.checks.specs.Checks.{belowB}
+use Rattle.ground.specs.Kit.{_≡_, Bool, true, false, and-false, ⊎-elim, ℕ, zero, suc, _+_, _<_, not-suc-le-zero, eq-or-lt-of-le, le-of-suc-le-suc, add-one}
+use Rattle.checks.specs.Verdicts.{belowB}
 
 module _ (f : ℕ → Bool) where
   pub one-more : (i : ℕ) → belowB f i ≡ true → f i ≡ true → belowB f (i + 1) ≡ true

@@ -1,32 +1,89 @@
--- What a passing verdict says of the checks. Assumes nothing.
-use mathlib.Core.Path.{_≡_, refl}
-use mathlib.Core.Bool.{Bool, true, false, _&&_}
-use mathlib.Core.List.{List}
-use Prim.Native.Nat.{ℕ}
-use lib.Dec.{eqb}
-use Rattle.state.specs.declared.State.{State}
-use Rattle.packet.proofs.First.{none-failed}
+-- What a verdict says: a command that passes has a rule and passed each of its checks, one that fails gives a named triple. Assumes nothing.
+use Rattle.ground.specs.Kit.{_≡_, refl, ap, Bool, true, false, _&&_, List, ℕ, _+_, _≤_, arith, not-false, eqb-false, ltb-false, eqb, leb, ltb}
+use Rattle.state.specs.declared.{Sense.Sense, Media.Media, Host.Host}
+use Rattle.packet.specs.declared.{Rule.Rule, Known.Known}
+use Rattle.checks.specs.declared.{Verdict.Verdict}
+use Rattle.ground.proofs.Truth.{neither, implies}
+use Rattle.ground.proofs.First.{none-failed, outcome-passes}
+use Rattle.disc.specs.Formats.{formatOf}
+use Rattle.state.specs.Senses.{namedB}
 use Rattle.packet.specs.Fields.{addressOf, lengthOf}
-use Rattle.packet.specs.declared.Rule.{Rule}
-use Rattle.checks.specs.Checks.{pastEndB, failsB, failing, checksOf, firstOf}
-use Rattle.checks.specs.declared.Verdict.{Verdict}
+use Rattle.packet.specs.Rules.{ruleOf}
+use Rattle.packet.specs.declared.Known.the-variants.{Unknown, Base}
+use Rattle.packet.proofs.BaseCommands.{opensB, writesB, guarded, unit-asked}
+use Rattle.checks.specs.Verdicts.{otherUnitB, inMaskB, pastEndB, failsB, failing, checksOf, verdictOf, verdict}
 use Rattle.checks.specs.declared.Verdict.the-variants.{Passes, Fails}
 
 abbrev pub passesB : Verdict → Bool
 passesB (Passes rule) = true
-passesB (Fails failure) = false
+passesB (Fails sense) = false
 
--- the checks D, G and H hold
-pub record Held (s : State) (rule : Rule) (p : List ℕ) : Type 0 where
-  pub disc : (rule .asked .disc && eqb (s .disc) 0) ≡ false
-  pub range : (rule .asked .range && pastEndB (s .disc) (addressOf p) (lengthOf (rule .length) p)) ≡ false
-  pub unprotected : (rule .asked .unprotected && s .protected) ≡ false
+-- the checks A to H hold; of F and F2 nobody asks
+pub record Passed (m : Media) (h : Host) (p : List ℕ) (rule : Rule) : Type 0 where
+  pub known : ruleOf p ≡ Base rule
+  pub unit : otherUnitB p ≡ false
+  pub power : (rule .asked .attention && h .power) ≡ false
+  pub change : (rule .asked .attention && h .change) ≡ false
+  pub disc : (rule .asked .disc && eqb (m .disc) 0) ≡ false
+  pub mask : inMaskB p (rule .row) ≡ true
+  pub range : (rule .asked .range && pastEndB (m .disc) (addressOf p) (lengthOf (rule .length) p)) ≡ false
+  pub unprotected : (rule .asked .unprotected && m .protected) ≡ false
 
-pub passing : (s : State) (rule : Rule) (p : List ℕ) → passesB (firstOf (checksOf s rule p) rule) ≡ true
-    → Held s rule p × (firstOf (checksOf s rule p) rule ≡ Passes rule)
-unfolding checksOf
-passing s rule p e =
-    let (holds, same) = none-failed failsB failing passesB (checksOf s rule p) (Passes rule) refl e in
-    let from-d = holds .1 .1 .1 in
-    let from-g = from-d .1 .1 .1 .1 in
-    (record { disc = from-d .0; range = from-g .0; unprotected = from-g .1 .0 }, same)
+module _ (m : Media) (h : Host) (p : List ℕ) where
+  pub passed : (rule : Rule) → verdict m h p ≡ Passes rule → Passed m h p rule
+  unfolding verdict checksOf
+  passed rule e = here (ruleOf p) refl e
+    where
+      here : (k : Known) → ruleOf p ≡ k → verdictOf k m h p ≡ Passes rule → Passed m h p rule
+      here Unknown q f = absurd (let z : _≡_ {A = ℕ} 0 1 = cc in omega arith)
+      here (Base own) q f =
+          let (b, outcome) = none-failed failsB failing passesB (checksOf m h own p) (Passes own) refl (ap passesB f) in
+          let c = b .1 in
+          let d = c .1 .1 in
+          let g = d .1 .1 .1 .1 in
+          let same : own ≡ rule = cc in
+          let all : Passed m h p own = record {
+            known = q;
+            unit = rw (unit-asked p own q) at (b .0);
+            power = c .0;
+            change = c .1 .0;
+            disc = d .0;
+            mask = not-false (inMaskB p (own .row)) (d .1 .0);
+            range = g .0;
+            unprotected = g .1 .0;
+          } in
+          rw same at all
+
+  -- a triple that is given is one of those named
+  abbrev namedIn : Verdict → Bool
+  namedIn (Passes rule) = true
+  namedIn (Fails sense) = namedB sense
+
+  pub gives-named : (sense : Sense) → verdict m h p ≡ Fails sense → namedB sense ≡ true
+  unfolding verdict checksOf namedB
+  gives-named sense e = rw e at (here (ruleOf p))
+    where
+      here : (k : Known) → namedIn (verdictOf k m h p) ≡ true
+      here Unknown = refl
+      here (Base rule) = outcome-passes failsB failing namedIn (checksOf m h rule p) (Passes rule) refl refl
+
+-- ---- what opens blocks: a disc is in, its blocks are on it, and a write finds no protection
+
+module _ {m : Media} {h : Host} {p : List ℕ} {rule : Rule} (passes : Passed m h p rule) (opens : opensB (rule .routine) ≡ true) where
+  pub disc-in : m .disc ≡ 0 → ⊥
+  disc-in =
+      eqb-false (m .disc) 0
+      (rw opens at (implies (opensB (rule .routine)) (rule .asked .disc) (eqb (m .disc) 0) (guarded p rule (passes .known) .disc) (passes .disc)))
+
+  pub in-range : addressOf p .0 + lengthOf (rule .length) p ≤ formatOf (m .disc) .blocks
+  in-range =
+      let last = formatOf (m .disc) .blocks in
+      let from = addressOf p .0 in
+      let n = lengthOf (rule .length) p in
+      let past = pastEndB (m .disc) (addressOf p) n in
+      let g = rw opens at (implies (opensB (rule .routine)) (rule .asked .range) past (guarded p rule (passes .known) .range) (passes .range)) in
+      ltb-false last (from + n) (neither (leb last from) (ltb last (from + n)) g .1)
+
+pub bare : {m : Media} {h : Host} {p : List ℕ} {rule : Rule} → Passed m h p rule → writesB (rule .routine) ≡ true → m .protected ≡ false
+bare {m} {h} {p} {rule} passes writes =
+    rw writes at (implies (writesB (rule .routine)) (rule .asked .unprotected) (m .protected) (guarded p rule (passes .known) .unprotected) (passes .unprotected))

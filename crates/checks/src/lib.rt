@@ -1,46 +1,28 @@
 // Whether a packet may pass: the checks A to H.
-ghost use mathlib.Core.Path.{_≡_};
-ghost use Rattle.checks.specs.Checks.{otherUnitB, inMaskB, badValueB, badControlB, pastEndB, firstOf, checksOf, verdict};
+ghost use Rattle.ground.specs.Kit.{_≡_};
+ghost use Rattle.checks.specs.Verdicts.{otherUnitB, inMaskB, badValueB, badControlB, pastEndB, firstOf, checksOf, verdict};
 use disc::BlockAddress;
+use ground::byte;
 use packet::Known;
 use packet::Rule;
 use packet::Values;
-use state::Attention;
-use state::Failure;
-use state::Fault;
-use state::State;
+use state::Host;
+use state::Media;
+use state::Sense;
 
 pub enum Verdict {
     Passes(Rule),
-    Fails(Failure),
+    Fails(Sense),
 }
 
-// Whether a check fails, and the failure that it then is.
-pub struct Check(pub bool, pub Failure);
-
-const UNKNOWN_CODE: Failure = Failure::Found(Fault::UnknownCode);
-
-const OTHER_UNIT: Failure = Failure::Found(Fault::OtherUnit);
-
-const POWER_ON: Failure = Failure::Pending(Attention::PowerOn);
-
-const CHANGE: Failure = Failure::Pending(Attention::Change);
-
-const NO_DISC: Failure = Failure::Found(Fault::NoDisc);
-
-const BAD_FIELD: Failure = Failure::Found(Fault::BadField);
-
-const NOT_SAVED: Failure = Failure::Found(Fault::NotSaved);
-
-const OUT_OF_RANGE: Failure = Failure::Found(Fault::OutOfRange);
-
-const PROTECTED: Failure = Failure::Found(Fault::Protected);
+// Whether a check fails, and the triple that it then gives.
+pub struct Check(pub bool, pub Sense);
 
 // B fails: the unit number is not 0.
 fn other_unit(packet: &[u8]) -> bool
     ensures { λ r. ⌜ r ≡ otherUnitB (now (packet .entry)) ⌝ }
 {
-    packet::byte(packet, 1) / 32 != 0
+    byte(packet, 1) / 32 != 0
 }
 
 // E holds: no bit is set outside the mask.
@@ -50,7 +32,7 @@ fn in_mask(packet: &[u8], row: usize) -> bool
     let masks = disc::mask_row(row);
     let mut i = 0;
     while i < 12 {
-        let b = packet::byte(packet, i);
+        let b = byte(packet, i);
         if b & masks[i] != b {
             return false;
         }
@@ -65,9 +47,9 @@ fn bad_value(values: Values, packet: &[u8]) -> bool
 {
     match values {
         Values::Any => false,
-        Values::ZeroBits(bits) => packet::byte(packet, 4) & bits != 0,
+        Values::ZeroBits(bits) => byte(packet, 4) & bits != 0,
         Values::Page => {
-            let page = packet::byte(packet, 2) % 64;
+            let page = byte(packet, 2) % 64;
             (page != 0x05) & (page != 0x3f)
         }
     }
@@ -80,7 +62,7 @@ fn bad_control(values: Values, packet: &[u8]) -> bool
     match values {
         Values::Any => false,
         Values::ZeroBits(_) => false,
-        Values::Page => packet::byte(packet, 2) / 64 == 3,
+        Values::Page => byte(packet, 2) / 64 == 3,
     }
 }
 
@@ -104,50 +86,50 @@ fn first_failure(checks: [Check; 9], rule: Rule) -> Verdict
     let mut i = 0;
     while i < 9 {
         let check = checks[i];
-        let failure = check.1;
+        let sense = check.1;
         if check.0 {
-            return Verdict::Fails(failure);
+            return Verdict::Fails(sense);
         }
         i += 1;
     }
     Verdict::Passes(rule)
 }
 
-// The checks B to H of a base command, in order: the first to fail gives the failure.
-fn checked(state: State, rule: Rule, packet: &[u8]) -> Verdict
-    ensures { λ r. ⌜ r ≡ firstOf (checksOf state rule (now (packet .entry))) rule ⌝ }
+// The checks B to H of a base command, in order: the first to fail gives the sense.
+fn checked(media: Media, host: Host, rule: Rule, packet: &[u8]) -> Verdict
+    ensures { λ r. ⌜ r ≡ firstOf (checksOf media host rule (now (packet .entry))) rule ⌝ }
 {
     let asked = rule.asked;
     let values = rule.values;
     let field = rule.length;
     let past = past_end(
-        state.disc,
+        media.disc,
         packet::address(packet),
         packet::length(field, packet),
     );
     first_failure(
         [
-            Check(other_unit(packet), OTHER_UNIT),
-            Check(asked.attention & state.power_on, POWER_ON),
-            Check(asked.attention & state.change, CHANGE),
-            Check(asked.disc & (state.disc == 0), NO_DISC),
-            Check(!in_mask(packet, rule.row), BAD_FIELD),
-            Check(bad_value(values, packet), BAD_FIELD),
-            Check(bad_control(values, packet), NOT_SAVED),
-            Check(asked.range & past, OUT_OF_RANGE),
-            Check(asked.unprotected & state.protected, PROTECTED),
+            Check(asked.unit & other_unit(packet), state::OTHER_UNIT),
+            Check(asked.attention & host.power, state::POWER_ON),
+            Check(asked.attention & host.change, state::CHANGE),
+            Check(asked.disc & (media.disc == 0), state::NO_DISC),
+            Check(!in_mask(packet, rule.row), state::BAD_FIELD),
+            Check(bad_value(values, packet), state::BAD_FIELD),
+            Check(bad_control(values, packet), state::NOT_SAVED),
+            Check(asked.range & past, state::OUT_OF_RANGE),
+            Check(asked.unprotected & media.protected, state::PROTECTED),
         ],
         rule,
     )
 }
 
-// Whether a packet passes the checks A to H, and by which rule, or the first failure.
-pub fn judge(state: State, packet: &[u8]) -> Verdict
-    ensures { λ r. ⌜ r ≡ verdict state (now (packet .entry)) ⌝ }
+// Whether a packet passes the checks A to H, and by which rule, or the sense of the first that fails.
+pub fn judge(media: Media, host: Host, packet: &[u8]) -> Verdict
+    ensures { λ r. ⌜ r ≡ verdict media host (now (packet .entry)) ⌝ }
 {
-    let known = packet::rule_of(packet::byte(packet, 0));
+    let known = packet::rule_of(packet);
     match known {
-        Known::Unknown => Verdict::Fails(UNKNOWN_CODE),
-        Known::Base(rule) => checked(state, rule, packet),
+        Known::Unknown => Verdict::Fails(state::UNKNOWN_CODE),
+        Known::Base(rule) => checked(media, host, rule, packet),
     }
 }

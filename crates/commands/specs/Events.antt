@@ -1,36 +1,29 @@
--- Paper 01, "House refusals": insertion and ejection.
-use mathlib.Core.Bool.{Bool, cond}
-use mathlib.Core.List.{List, []}
-use Prim.Native.Nat.{ℕ}
-use lib.Dec.{eqb}
-use lib.ListN.{length}
+-- Paper 01, "House refusals": insertion and ejection. Each touches the state alone.
+use Rattle.ground.specs.Kit.{Bool, cond, ℕ, eqb}
+use Rattle.state.specs.declared.{State.State}
+use Rattle.commands.specs.declared.{EventReply.EventReply}
 use Rattle.state.specs.States.{insertedOf, ejectedOf}
-use Rattle.house.specs.World.{World, world}
-use Rattle.house.specs.House.{numberOf, firstRefusal, insertTests, ejectTests}
-use Rattle.commands.specs.declared.EventReply.{EventReply}
+use Rattle.house.specs.Refusals.{numberOf, firstRefusal, insertTests, ejectTests}
 
--- the paper's house number, and the world after
-pub record Happened : Type 0 where
+-- the paper's house number, and the state after
+pub record Event : Type 0 where
   pub house : ℕ
-  pub world : World
+  pub state : State
 
-abbrev pub event : ℕ → World → Happened
-event house w = record { house = house; world = w }
+abbrev pub event : ℕ → State → Event
+event house s = record { house = house; state = s }
 
--- "Each returns its number .. and leaves state, disc, block buffer .. as they were."
-abbrev pub unlessRefused : ℕ → World → World → Happened
-unlessRefused house w next = cond (eqb house 0) (event 0 next) (event house w)
+-- a reply by its number
+abbrev pub happened : EventReply → Event
+happened r = event (numberOf (r .house)) (r .state)
 
--- a reply, the world before, and the disc that an accepted event leaves in: no event touches a byte of block buffer or disc
-abbrev pub happened : EventReply → World → List ℕ → Happened
-happened r w disc =
-    event (numberOf (r .house)) (world (r .state) (w .buffer) (cond (eqb (numberOf (r .house)) 0) disc (w .disc)))
+-- "Each returns its number .. and leaves state .. as they were."
+abbrev pub eventOf : ℕ → State → State → Event
+eventOf house s next = cond (eqb house 0) (event 0 next) (event house s)
 
--- the disc that was lent for it is in afterwards
-unfoldable pub insertOf : World → ℕ → Bool → List ℕ → Happened
-insertOf w number prot disc =
-    unlessRefused (firstRefusal (insertTests (w .state) number (length disc))) w (world (insertedOf (w .state) number prot) (w .buffer) disc)
+-- the disc that is lent for it counts by its length
+unfoldable pub insertOf : State → ℕ → Bool → ℕ → Event
+insertOf s number prot disc = eventOf (firstRefusal (insertTests s number disc)) s (insertedOf s number prot)
 
--- none is in afterwards: length "0 for none"
-unfoldable pub ejectOf : World → Happened
-ejectOf w = unlessRefused (firstRefusal (ejectTests (w .state))) w (world (ejectedOf (w .state)) (w .buffer) [])
+unfoldable pub ejectOf : State → Event
+ejectOf s = eventOf (firstRefusal (ejectTests s)) s (ejectedOf s)

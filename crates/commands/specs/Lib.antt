@@ -1,2 +1,2 @@
 pub mod Events
-pub mod Commands
+pub mod Obeying

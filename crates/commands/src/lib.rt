@@ -1,12 +1,11 @@
 // The events and the commands, each with its house refusals.
-ghost use mathlib.Core.Path.{_≡_};
-ghost use Prim.Native.Nat.{ℕ};
-ghost use mathlib.Core.List.{List, []};
-ghost use Rattle.state.specs.States.{powerOn};
+ghost use Rattle.ground.specs.Kit.{_≡_, ℕ, List, length};
+ghost use Rattle.state.specs.Senses.{noSense};
+ghost use Rattle.state.specs.States.{powerOn, obeyedOf};
 ghost use Rattle.house.specs.World.{world};
-ghost use Rattle.house.specs.House.{numberOf};
-ghost use Rattle.commands.specs.Events.{happened, unlessRefused, insertOf, ejectOf};
-ghost use Rattle.commands.specs.Commands.{spanOf, after, performedOf, commanded, commandOf};
+ghost use Rattle.house.specs.Refusals.{numberOf};
+ghost use Rattle.commands.specs.Events.{happened, eventOf, insertOf, ejectOf};
+ghost use Rattle.commands.specs.Obeying.{spanOf, performedOf, commanded, commandOf};
 use checks::Verdict;
 use disc::BlockAddress;
 use house::House;
@@ -36,8 +35,7 @@ pub fn power_on() -> State
 
 // The reply to an event: a refusal leaves the state.
 fn unless_refused(house: House, state: State, next: State) -> EventReply
-    ensures { λ r. ⌜ ((buffer before disc : List ℕ)
-        → happened r (world state buffer before) disc ≡ unlessRefused (numberOf house) (world state buffer before) (world next buffer disc)) ⌝ }
+    ensures { λ r. ⌜ happened r ≡ eventOf (numberOf house) state next ⌝ }
 {
     if house::number_of(house) != 0 {
         return EventReply {
@@ -52,15 +50,14 @@ fn unless_refused(house: House, state: State, next: State) -> EventReply
 }
 
 pub fn insert(state: State, number: u8, protected: bool, disc: &[u8]) -> EventReply
-    ensures { λ r. ⌜ ((buffer before : List ℕ)
-        → happened r (world state buffer before) (now (disc .entry)) ≡ insertOf (world state buffer before) number protected (now (disc .entry))) ⌝ }
+    ensures { λ r. ⌜ happened r ≡ insertOf state number protected (length (now (disc .entry))) ⌝ }
 {
     let house = house::insert_house(state, number, disc.len());
     unless_refused(house, state, state::inserted(state, number, protected))
 }
 
 pub fn eject(state: State) -> EventReply
-    ensures { λ r. ⌜ ((buffer before : List ℕ) → happened r (world state buffer before) [] ≡ ejectOf (world state buffer before)) ⌝ }
+    ensures { λ r. ⌜ happened r ≡ ejectOf state ⌝ }
 {
     unless_refused(house::eject_house(state), state, state::ejected(state))
 }
@@ -76,25 +73,34 @@ fn span(number: u8, from: BlockAddress, blocks: u32) -> DiscAt
     }
 }
 
-// What a command that has passed does.
-fn performed(state: State, rule: Rule, packet: &[u8], buffer: &mut [u8]) -> State
-    ensures { λ r. ⌜ after r (now (buffer .exit)) ≡ performedOf state rule (now (packet .entry)) (now (buffer .entry)) ⌝ }
+// A command that passes leaves no sense.
+fn passed(state: State, motor: bool, transfer: Transfer) -> State
+    ensures { λ r. ⌜ r ≡ obeyedOf state noSense motor transfer ⌝ }
 {
+    state::obeyed(state, state::NO_SENSE, motor, transfer)
+}
+
+// What a command that has passed does; it is lent no disc, so that it leaves any.
+fn performed(state: State, rule: Rule, packet: &[u8], buffer: &mut [u8]) -> State
+    ensures { λ r. ⌜ ((disc : List ℕ) → world r (now (buffer .exit)) disc
+        ≡ performedOf rule (world state (now (buffer .entry)) disc) (now (packet .entry))) ⌝ }
+{
+    let media = state.media;
+    let sense = state.host.sense;
     let field = rule.length;
     let routine = rule.routine;
     let length = packet::length(field, packet);
-    let blocks = span(state.disc, packet::address(packet), length);
+    let blocks = span(media.disc, packet::address(packet), length);
     match routine {
-        Routine::Nothing => state::passed(state, state.motor, Transfer::Closed),
-        Routine::Motor => state::passed(state, packet::byte(packet, 4) % 2 == 1, Transfer::Closed),
+        Routine::Nothing => passed(state, state.motor, Transfer::Closed),
+        Routine::Motor => passed(state, ground::byte(packet, 4) % 2 == 1, Transfer::Closed),
         Routine::Answer(answering) => {
-            let control = packet::byte(packet, 2) / 64;
-            let left = answer::give(answering, state, control, length as usize, buffer);
+            let left = answer::give(answering, media, sense, packet, length as usize, buffer);
             let from = AnswerAt { at: 0, left: left };
-            state::passed(state, state.motor, Transfer::Answer(from))
+            passed(state, state.motor, Transfer::Answer(from))
         }
-        Routine::Read => state::passed(state, state.motor, Transfer::Read(blocks)),
-        Routine::Write => state::passed(state, state.motor, Transfer::Write(blocks)),
+        Routine::Read => passed(state, state.motor, Transfer::Read(blocks)),
+        Routine::Write => passed(state, state.motor, Transfer::Write(blocks)),
     }
 }
 
@@ -110,10 +116,12 @@ pub fn command(state: State, packet: &[u8], buffer: &mut [u8], disc: &[u8]) -> C
             state: state,
         };
     }
-    let verdict = checks::judge(state, packet);
+    let media = state.media;
+    let host = state.host;
+    let verdict = checks::judge(media, host, packet);
     match verdict {
-        Verdict::Fails(failure) => {
-            let next = state::failed(state, failure);
+        Verdict::Fails(sense) => {
+            let next = state::obeyed(state, sense, state.motor, Transfer::Closed);
             CommandReply {
                 house: House::Accepted,
                 passed: false,

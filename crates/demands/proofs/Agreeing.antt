@@ -1,106 +1,92 @@
--- The ledger agrees with the drive: at power-on, and after every call if before it. Assumes nothing.
-use mathlib.Core.Path.{_≡_, refl, sym, _∙_}
-use mathlib.Core.Bool.{Bool, true, false, cond}
-use mathlib.Core.List.{List, [], flatten}
-use Prim.Native.Nat.{ℕ, _-_}
-use borrow.Author.Tests.{eqb-true}
-use lib.Dec.{eqb}
-use lib.ListN.{length, take, drop}
+-- When the ledger agrees with the drive; and that it does after an event, if before it. Assumes nothing.
+use Rattle.ground.specs.Kit.{_≡_, refl, sym, subst, _∙_, Bool, true, List, [], _∷_, flatten, ℕ, _+_, arith, length}
+use Rattle.state.specs.declared.{DiscAt.DiscAt, Media.Media, Transfer.Transfer}
 use Rattle.disc.specs.Formats.{formatOf, blockBytes, runBytes, discBytes}
-use Rattle.state.specs.declared.Transfer.{Transfer}
 use Rattle.state.specs.declared.Transfer.the-variants.{Closed, Answer, Read, Write}
 use Rattle.state.specs.States.{leftOf, closedAtZero, insertedOf, ejectedOf}
-use Rattle.sound.specs.Sound.{openSoundB, soundB}
-use Rattle.sound.proofs.Keeps.{parts}
-use Rattle.sound.proofs.Transfers.{on-disc, writes}
-use Rattle.house.specs.World.{World, world}
+use Rattle.state.proofs.Closing.{by-left}
+use Rattle.sound.specs.Soundness.{openSoundB, soundB}
+use Rattle.sound.proofs.Keeping.{parts}
+use Rattle.sound.proofs.Opened.{on-disc, writes}
+use Rattle.house.specs.World.{World}
 use Rattle.house.proofs.Houses.{insert-admits}
-use Rattle.feeds.specs.Feeds.{writing}
-use Rattle.demands.specs.Device.{Insert, Eject, callOf}
-use Rattle.demands.specs.Answered.{houseOf}
+use Rattle.feeds.specs.Feeding.{writing}
+use Rattle.feeds.proofs.ByTransfer.{takes}
+use Rattle.pulls.proofs.ByTransfer.{gives}
+use Rattle.drive.specs.Calls.{Insert, Eject, houseOf}
+use Rattle.drive.proofs.Calling.{acceptedOf}
 use Rattle.demands.specs.Ledger.{Store, Ledger, noted}
-use Rattle.demands.proofs.Calls.{inserted, ejected}
-use Rattle.demands.proofs.Blocks.{Even, cut-even, cut-joins}
+use Rattle.demands.proofs.BlockLists.{Even, cut-even, cut-joins}
 use Rattle.demands.proofs.Gathering.{Gathered}
 
 -- ---- what is open is what the ledger takes and gives
 
-module _ (b : ℕ) (buffer disc : List ℕ) (stored : Store) (left : ℕ) (coming : List ℕ) where
-  abbrev pub Opened : Transfer → Type 0
-  Opened Closed = (left ≡ 0) × (coming ≡ [])
-  Opened (Answer p) = (left ≡ 0) × (coming ≡ take (p .left) (drop (p .at) buffer)) × (length coming ≡ p .left)
-  Opened (Read p) = (left ≡ 0) × (coming ≡ take (p .left) (drop (p .at .0) disc)) × (length coming ≡ p .left)
-  Opened (Write p) = (left ≡ p .left) × (coming ≡ []) × Gathered b stored (writing (p .at .0) buffer disc)
+-- of blocks of b bytes: the bytes to take and the bytes to give are all that is left, and of the block being written the same has come
+pub record Opened (b : ℕ) (buffer disc : List ℕ) (stored : Store) (left : ℕ) (coming : List ℕ) (t : Transfer) : Type 0 where
+  pub taking : left ≡ takes t
+  pub giving : coming ≡ gives buffer disc t
+  pub all : takes t + length (gives buffer disc t) ≡ leftOf t
+  pub gathered : (p : DiscAt) → t ≡ Write p → Gathered b stored (writing (p .at) buffer disc)
 
-  shut : (t : Transfer) → leftOf t ≡ 0 → Opened t → Opened Closed
-  shut Closed z o = o
-  shut (Answer p) z o = (o .0, rw z at (o .1))
-  shut (Read p) z o = (o .0, rw z at (o .1))
-  shut (Write p) z o = (o .0 ∙ z, o .1)
+none-listed : (xs : List ℕ) → length xs ≡ 0 → xs ≡ []
+none-listed [] e = refl
+none-listed (x ∷ xs) e = absurd (omega arith)
+
+module _ (b : ℕ) (buffer disc : List ℕ) (stored : Store) where
+  pub shut : Opened b buffer disc stored 0 [] Closed
+  shut = record { taking = refl; giving = refl; all = refl; gathered = λ p e. absurd (let z : _≡_ {A = ℕ} 0 1 = cc in omega arith) }
+
+  -- a write has one place
+  pub at-place : (p : DiscAt) → Gathered b stored (writing (p .at) buffer disc) → (q : DiscAt) → Write p ≡ Write q → Gathered b stored (writing (q .at) buffer disc)
+  at-place p g q e = let same : p ≡ q = cc in subst (λ (r : DiscAt). Gathered b stored (writing (r .at) buffer disc)) same g
 
   -- with 0 bytes left it is closed
-  pub closing : (t : Transfer) → Opened t → Opened (closedAtZero t)
-  closing t o = here (eqb (leftOf t) 0) refl
-    where
-      here : (z : Bool) → eqb (leftOf t) 0 ≡ z → Opened (cond z Closed t)
-      here true q = shut t (eqb-true (leftOf t) 0 q) o
-      here false q = o
+  pub closing : (left : ℕ) (coming : List ℕ) (t : Transfer) → Opened b buffer disc stored left coming t → Opened b buffer disc stored left coming (closedAtZero t)
+  closing left coming t o =
+      by-left (Opened b buffer disc stored left coming) t
+      (λ z.
+      let none : left ≡ 0 = omega (arith, o .taking, o .all, z) in
+      let nothing : coming ≡ [] = o .giving ∙ none-listed (gives buffer disc t) (omega (arith, o .all, z)) in
+      rw (none, nothing) shut)
+      (λ _. o)
 
 pub record Agrees (w : World) (l : Ledger) : Type 0 where
-  pub number : l .facts .number ≡ w .state .disc
-  pub prot : l .facts .prot ≡ w .state .protected
-  pub power : l .facts .power ≡ w .state .«power_on»
-  pub change : l .facts .change ≡ w .state .change
-  pub sense : l .facts .sense ≡ w .state .sense
-  pub disc : (w .state .disc ≡ 0 → ⊥) → Even (blockBytes (w .state .disc)) (l .stored .blocks) × (w .disc ≡ flatten (l .stored .blocks))
-  pub opened : Opened (blockBytes (w .state .disc)) (w .buffer) (w .disc) (l .stored) (l .left) (l .coming) (w .state .transfer)
+  pub media : l .media ≡ w .state .media
+  pub host : l .host ≡ w .state .host
+  pub disc : (w .state .media .disc ≡ 0 → ⊥)
+      → Even (blockBytes (w .state .media .disc)) (l .stored .blocks) × (w .disc ≡ flatten (l .stored .blocks))
+  pub opened : Opened (blockBytes (w .state .media .disc)) (w .buffer) (w .disc) (l .stored) (l .left) (l .coming) (w .state .transfer)
 
 -- ---- events
 
-module _ (w : World) (sound : soundB (w .state) ≡ true) (l : Ledger) (a : Agrees w l) where
-  -- without a disc no disc transfer is open, so that another disc changes nothing of what is open
-  without-disc : w .state .disc ≡ 0 → (b : ℕ) (disc : List ℕ) (stored : Store)
-      → Opened b (w .buffer) disc stored (l .left) (l .coming) (w .state .transfer)
-  unfolding openSoundB
-  without-disc none b disc stored = here (w .state .transfer) (parts (w .state) sound .opened) (a .opened)
-    where
-      here : (t : Transfer) → openSoundB (w .state .disc) (w .state .protected) t ≡ true
-          → Opened (blockBytes (w .state .disc)) (w .buffer) (w .disc) (l .stored) (l .left) (l .coming) t
-          → Opened b (w .buffer) disc stored (l .left) (l .coming) t
-      here Closed s o = o
-      here (Answer p) s o = o
-      here (Read p) s o = absurd (on-disc (w .state .disc) p s .is-in none)
-      here (Write p) s o = absurd (writes (w .state .disc) (w .state .protected) p s .on .is-in none)
+-- without a disc no disc transfer is open, so that another disc changes nothing of what is open
+no-disc : (m : Media) → m .disc ≡ 0 → (buffer disc other : List ℕ) (t : Transfer) → openSoundB m t ≡ true
+    → (gives buffer other t ≡ gives buffer disc t) × ((p : DiscAt) → t ≡ Write p → ⊥)
+unfolding openSoundB
+no-disc m none buffer disc other Closed s = (refl, λ p e. let z : _≡_ {A = ℕ} 0 1 = cc in omega arith)
+no-disc m none buffer disc other (Answer q) s = (refl, λ p e. let z : _≡_ {A = ℕ} 0 1 = cc in omega arith)
+no-disc m none buffer disc other (Read q) s = absurd (on-disc (m .disc) q s .is-in none)
+no-disc m none buffer disc other (Write q) s = absurd (writes m q s .on .is-in none)
 
-  pub agrees-inserted : (number : ℕ) (prot : Bool) (disc : List ℕ) → houseOf w (Insert number prot disc) ≡ 0
-      → Agrees (callOf w (Insert number prot disc) .world) (noted l (Insert number prot disc) (callOf w (Insert number prot disc) .heard))
+module _ (w : World) (sound : soundB (w .state) ≡ true) (l : Ledger) (a : Agrees w l) where
+  pub agrees-inserted : (number : ℕ) (prot : Bool) (disc : List ℕ)
+      → let c = Insert number prot disc in
+      houseOf w c ≡ 0 → Agrees (acceptedOf w c .world) (noted l c (acceptedOf w c .heard))
   unfolding noted insertedOf discBytes runBytes
   agrees-inserted number prot disc none =
       let i = insert-admits (w .state) number disc .0 none in
-      rw (inserted w number prot disc none)
-      (record {
-        number = refl;
-        prot = refl;
-        power = a .power;
-        change = refl;
-        sense = refl;
+      let (same, no-write) = no-disc (w .state .media) (i .none) (w .buffer) (w .disc) disc (w .state .transfer) (parts (w .state) sound .opened) in
+      let o = a .opened in
+      record {
+        media = refl;
+        host = rw (a .host);
         disc = λ _. (
           cut-even (blockBytes number) (formatOf number .blocks) disc (i .whole),
           sym (cut-joins (blockBytes number) (formatOf number .blocks) disc (i .whole)),
         );
-        opened = without-disc (i .none) (blockBytes number) disc _;
-      })
+        opened = record { taking = o .taking; giving = o .giving ∙ sym same; all = rw same (o .all); gathered = λ p e. absurd (no-write p e) };
+      }
 
-  pub agrees-ejected : houseOf w Eject ≡ 0 → Agrees (callOf w Eject .world) (noted l Eject (callOf w Eject .heard))
+  pub agrees-ejected : Agrees (acceptedOf w Eject .world) (noted l Eject (acceptedOf w Eject .heard))
   unfolding noted ejectedOf
-  agrees-ejected none =
-      rw (ejected w none)
-      (record {
-        number = refl;
-        prot = refl;
-        power = a .power;
-        change = a .change;
-        sense = refl;
-        disc = λ some. absurd (some refl);
-        opened = (refl, refl);
-      })
+  agrees-ejected = record { media = refl; host = rw (a .host); disc = λ some. absurd (some refl); opened = shut _ _ _ _ }

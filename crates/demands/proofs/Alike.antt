@@ -1,38 +1,30 @@
 -- A packet that is alike to a passing READ or WRITE but for address and length passes too, where its blocks are among the other's.
 -- Assumes nothing.
-use mathlib.Core.Path.{_≡_, refl, sym, ap, _∙_}
-use mathlib.Core.Bool.{Bool, true, false, not, _&&_, _||_, false≢true}
-use mathlib.Core.List.{List}
-use Prim.Native.Nat.{ℕ, _+_, _≤_, _<_, _%_}
-use native.Mathlib.Omega.{arith}
-use borrow.Author.Tests.{eq-eqb, eqb-true, leb-true, le-ltb, lt-leb, ltb-true, ltb-false, not-false}
-use lib.Bits.{bitAnd, and-mask}
-use lib.Dec.{eqb, leb, ltb}
-use lib.ListN.{length}
-use Rattle.disc.specs.Formats.{noFormat, formats, formatOf}
+use Rattle.ground.specs.Kit.{_≡_, refl, sym, ap, _∙_, Bool, true, false, not, _&&_, _||_, false≢true, List, ℕ, _+_, _≤_, _<_, _%_, arith, eq-eqb, eqb-true, le-ltb, lt-leb, ltb-true, bitAnd, and-mask, eqb, leb, ltb, length}
+use Rattle.disc.specs.declared.{BlockAddress.BlockAddress}
+use Rattle.state.specs.declared.{Media.Media, Host.Host}
+use Rattle.packet.specs.declared.{Field.Field, Values.Values, Rule.Rule}
+use Rattle.checks.specs.declared.{Verdict.Verdict}
+use Rattle.ground.specs.Bytes.{byteAt}
+use Rattle.ground.proofs.Tables.{all}
+use Rattle.disc.specs.Formats.{formatOf}
 use Rattle.disc.specs.Masks.{masks, maskRow}
-use Rattle.disc.proofs.Table.{always}
-use Rattle.disc.proofs.Truth.{neither}
-use Rattle.state.specs.declared.State.{State}
-use Rattle.packet.specs.Fields.{byteAt, addressOf, lengthOf}
-use Rattle.packet.specs.Rules.{rules, ruleOf}
-use Rattle.packet.specs.declared.Field.{Field}
+use Rattle.disc.proofs.Discs.{few-blocks}
+use Rattle.packet.specs.Fields.{addressOf, lengthOf}
+use Rattle.packet.specs.Rules.{codeOf, rules, ruleOf}
 use Rattle.packet.specs.declared.Field.the-variants.{Nowhere, Byte4, Bytes7To8, Bytes6To9}
-use Rattle.packet.specs.declared.Values.{Values}
 use Rattle.packet.specs.declared.Values.the-variants.{Any, ZeroBits, Page}
-use Rattle.packet.specs.declared.Rule.{Rule}
 use Rattle.packet.specs.declared.Known.the-variants.{Base}
-use Rattle.packet.proofs.First.{none-failed}
-use Rattle.packet.proofs.Table.{all, of-base, opensB}
-use Rattle.checks.specs.Checks.{otherUnitB, bitsB, belowB, inMaskB, failsB, failing, checksOf, firstOf, verdict}
-use Rattle.checks.specs.declared.Verdict.{Verdict}
+use Rattle.packet.proofs.BaseCommands.{ofKnown, of-base, opensB, unit-asked}
+use Rattle.checks.specs.Verdicts.{bitsB, belowB, inMaskB, checksOf, verdict}
 use Rattle.checks.specs.declared.Verdict.the-variants.{Passes, Fails}
 use Rattle.checks.proofs.Below.{one-fails}
-use Rattle.checks.proofs.Passing.{passesB, passing}
-use Rattle.house.specs.World.{World}
-use Rattle.house.specs.House.{commandHouse}
-use Rattle.house.proofs.Houses.{noneB, was-ready}
-use Rattle.commands.specs.Commands.{obeyedOf, commandOf}
+use Rattle.checks.proofs.Passing.{Passed, passed, in-range}
+use Rattle.house.specs.World.{World, Reply}
+use Rattle.house.proofs.Houses.{command-admits}
+use Rattle.commands.specs.Obeying.{replyTo}
+use Rattle.drive.specs.Calls.{Command, callOf}
+use Rattle.drive.proofs.Calling.{by-call}
 use Rattle.demands.specs.Uncut.{alike}
 
 -- ---- what the table says of a READ and a WRITE
@@ -62,9 +54,9 @@ abbrev freeB : Field → ℕ → ℕ → Bool
 freeB field row i = not (setB field i) || eqb (byteAt (maskRow row) i) 0xff
 
 -- what the test of all entries says of one that opens blocks
-opening : (test : Rule → Bool) → all (λ code rule. not (opensB (rule .routine)) || test rule) rules ≡ true → (code : ℕ) (rule : Rule)
-    → ruleOf code ≡ Base rule → opensB (rule .routine) ≡ true → test rule ≡ true
-opening test e code rule known opens = rw opens at (of-base (λ code rule. not (opensB (rule .routine)) || test rule) e code rule known)
+opening : (test : Rule → Bool) → all (λ e. ofKnown (λ code rule. not (opensB (rule .routine)) || test rule) (e .key) (e .item)) rules ≡ true
+    → (p : List ℕ) (rule : Rule) → ruleOf p ≡ Base rule → opensB (rule .routine) ≡ true → test rule ≡ true
+opening test e p rule known opens = rw opens at (of-base (λ code rule. not (opensB (rule .routine)) || test rule) e p rule known)
 
 -- what holds of each that does
 record Plain (rule : Rule) : Type 0 where
@@ -73,14 +65,14 @@ record Plain (rule : Rule) : Type 0 where
   range : rule .asked .range ≡ true
   free : belowB (freeB (rule .length) (rule .row)) 12 ≡ true
 
-plain : (code : ℕ) (rule : Rule) → ruleOf code ≡ Base rule → opensB (rule .routine) ≡ true → Plain rule
+plain : (p : List ℕ) (rule : Rule) → ruleOf p ≡ Base rule → opensB (rule .routine) ≡ true → Plain rule
 unfolding rules masks maskRow
-plain code rule known opens =
+plain p rule known opens =
     record {
-      blocks = opening (λ rule. blocksB (rule .length)) refl code rule known opens;
-      any = opening (λ rule. anyB (rule .values)) refl code rule known opens;
-      range = opening (λ rule. rule .asked .range) refl code rule known opens;
-      free = opening (λ rule. belowB (freeB (rule .length) (rule .row)) 12) refl code rule known opens;
+      blocks = opening (λ rule. blocksB (rule .length)) refl p rule known opens;
+      any = opening (λ rule. anyB (rule .values)) refl p rule known opens;
+      range = opening (λ rule. rule .asked .range) refl p rule known opens;
+      free = opening (λ rule. belowB (freeB (rule .length) (rule .row)) 12) refl p rule known opens;
     }
 
 -- ---- check E
@@ -106,7 +98,7 @@ module _ (field : Field) (row : ℕ) (p : List ℕ) (free : belowB (freeB field 
       rw ff (eq-eqb (bitAnd (x % 256) 255) (x % 256) (and-mask (x % 256) 8 ∙ omega arith))
 
 -- so the packet has no bit outside the mask if p has none
-alike-in : (field : Field) (row : ℕ) (p : List ℕ) (from n : ℕ) → belowB (freeB field row) 12 ≡ true → inMaskB p row ≡ true
+alike-in : (field : Field) (row : ℕ) (p : List ℕ) (from : BlockAddress) (n : ℕ) → belowB (freeB field row) 12 ≡ true → inMaskB p row ≡ true
     → inMaskB (alike field p from n) row ≡ true
 unfolding inMaskB
 alike-in Nowhere row p from n free held = held
@@ -117,118 +109,84 @@ alike-in Bytes6To9 row p from n free held = simp (kept-in Bytes6To9 row p free h
 -- ---- what the packet says
 
 -- p's code and unit, and its own address and length
-record Same (field : Field) (p q : List ℕ) (from n : ℕ) : Type 0 where
+record Same (field : Field) (p q : List ℕ) (from : BlockAddress) (n : ℕ) : Type 0 where
   long : length q ≡ 12
-  code : byteAt q 0 ≡ byteAt p 0
+  rule : ruleOf q ≡ ruleOf p
   unit : byteAt q 1 ≡ byteAt p 1
-  address : addressOf q .0 ≡ from
+  address : addressOf q .0 ≡ from .0
   blocks : lengthOf field q ≡ n
 
-same : (field : Field) (p : List ℕ) (from n : ℕ) → blocksB field ≡ true → from < 65536 → n < 65536 → Same field p (alike field p from n) from n
-unfolding addressOf lengthOf
+same : (field : Field) (p : List ℕ) (from : BlockAddress) (n : ℕ) → blocksB field ≡ true → from .0 < 65536 → n < 65536
+    → Same field p (alike field p from n) from n
+unfolding addressOf lengthOf ruleOf
 same Nowhere p from n e h k = absurd (false≢true e)
 same Byte4 p from n e h k = absurd (false≢true e)
-same Bytes7To8 p from n e h k = record { long = refl; code = refl; unit = refl; address = omega arith; blocks = omega arith }
-same Bytes6To9 p from n e h k = record { long = refl; code = refl; unit = refl; address = omega arith; blocks = omega arith }
+same Bytes7To8 p from n e h k = record { long = refl; rule = refl; unit = refl; address = omega arith; blocks = omega arith }
+same Bytes6To9 p from n e h k = record { long = refl; rule = refl; unit = refl; address = omega arith; blocks = omega arith }
 
 -- a passing packet of n blocks from a block on, all on the disc
-pub record Says (s : State) (rule : Rule) (p : List ℕ) (from n : ℕ) : Type 0 where
+pub record Says (m : Media) (h : Host) (rule : Rule) (p : List ℕ) (from n : ℕ) : Type 0 where
   pub long : length p ≡ 12
-  pub passes : verdict s p ≡ Passes rule
+  pub passes : verdict m h p ≡ Passes rule
   pub address : addressOf p .0 ≡ from
   pub blocks : lengthOf (rule .length) p ≡ n
-  pub within : from + n ≤ formatOf (s .disc) .blocks
-
--- so that an address and a length fit their bytes
-few-blocks : (number : ℕ) → formatOf number .blocks ≤ 2880
-unfolding formatOf
-few-blocks number = leb-true (formatOf number .blocks) 2880 (always (λ f. leb (f .blocks) 2880) noFormat refl formats refl number)
+  pub within : from + n ≤ formatOf (m .disc) .blocks
 
 any-value : (v : Values) → anyB v ≡ true → v ≡ Any
 any-value Any e = refl
 any-value (ZeroBits bits) e = absurd (false≢true e)
 any-value Page e = absurd (false≢true e)
 
--- the checks B, C and E hold; for D, G and H there is `passing`
-record Checked (s : State) (rule : Rule) (p : List ℕ) : Type 0 where
-  unit : otherUnitB p ≡ false
-  power : (rule .asked .attention && s .«power_on») ≡ false
-  change : (rule .asked .attention && s .change) ≡ false
-  mask : inMaskB p (rule .row) ≡ true
-
-checked : (s : State) (rule : Rule) (p : List ℕ) → passesB (firstOf (checksOf s rule p) rule) ≡ true → Checked s rule p
-unfolding checksOf
-checked s rule p e =
-    let b = none-failed failsB failing passesB (checksOf s rule p) (Passes rule) refl e .0 in
-    let c = b .1 in
-    let d = c .1 .1 in
-    record { unit = b .0; power = c .0; change = c .1 .0; mask = not-false (inMaskB p (rule .row)) (d .1 .0) }
-
-module _ (s : State) (rule : Rule) (p : List ℕ) (known : ruleOf (byteAt p 0) ≡ Base rule) (opens : opensB (rule .routine) ≡ true) where
-  passes-all : verdict s p ≡ Passes rule → passesB (firstOf (checksOf s rule p) rule) ≡ true
-  unfolding verdict
-  passes-all e = ap passesB (rw known at e)
-
-  -- check G in numbers
-  pub in-range : verdict s p ≡ Passes rule → addressOf p .0 + lengthOf (rule .length) p ≤ formatOf (s .disc) .blocks
-  in-range e =
-      let last = formatOf (s .disc) .blocks in
-      let a = addressOf p .0 in
-      let n = lengthOf (rule .length) p in
-      let g = rw (plain (byteAt p 0) rule known opens .range) at (passing s rule p (passes-all e) .0 .range) in
-      ltb-false last (a + n) (neither (leb last a) (ltb last (a + n)) g .1)
-
+module _ (m : Media) (h : Host) (rule : Rule) (p : List ℕ) (opens : opensB (rule .routine) ≡ true) where
   -- a packet alike, of blocks that are among those of p
-  pub alike-says : (a l from n : ℕ) → Says s rule p a l → 1 ≤ n → a ≤ from → from + n ≤ a + l
-      → Says s rule (alike (rule .length) p from n) from n
+  pub alike-says : (a l : ℕ) (from : BlockAddress) (n : ℕ) → Says m h rule p a l → 1 ≤ n → a ≤ from .0 → from .0 + n ≤ a + l
+      → Says m h rule (alike (rule .length) p from n) (from .0) n
   unfolding verdict checksOf
   alike-says a l from n says some low high =
-      let t = plain (byteAt p 0) rule known opens in
-      let last = formatOf (s .disc) .blocks in
-      let few = few-blocks (s .disc) in
-      let m = same (rule .length) p from n (t .blocks) (omega arith) (omega arith) in
-      let all = passes-all (says .passes) in
-      let c = checked s rule p all in
-      let (h, _) = passing s rule p all in
+      let c = passed m h p rule (says .passes) in
+      let t = plain p rule (c .known) opens in
+      let last = formatOf (m .disc) .blocks in
+      let few = few-blocks (m .disc) in
+      let q = same (rule .length) p from n (t .blocks) (omega arith) (omega arith) in
       record {
-        long = m .long;
+        long = q .long;
         passes =
             rw (
-              m .code,
-              known,
-              m .unit,
+              q .rule,
+              c .known,
+              unit-asked p rule (c .known),
+              q .unit,
               c .unit,
               c .power,
               c .change,
-              h .disc,
+              c .disc,
               alike-in (rule .length) (rule .row) p from n (t .free) (c .mask),
               any-value (rule .values) (t .any),
-              m .address,
-              m .blocks,
-              lt-leb last from (omega arith),
-              le-ltb last (from + n) (omega arith),
+              q .address,
+              q .blocks,
+              lt-leb last (from .0) (omega arith),
+              le-ltb last (from .0 + n) (omega arith),
               t .range,
-              h .unprotected,
+              c .unprotected,
             );
-        address = m .address;
-        blocks = m .blocks;
+        address = q .address;
+        blocks = q .blocks;
         within = omega arith;
       }
 
 -- a command that passed has passed the checks
-passed-as : (w : World) (p : List ℕ) (v : Verdict) → obeyedOf v w p .passed ≡ passesB v
-passed-as w p (Passes rule) = refl
-passed-as w p (Fails failure) = refl
-
-pub passed-says : (w : World) (p : List ℕ) (rule : Rule) → ruleOf (byteAt p 0) ≡ Base rule → opensB (rule .routine) ≡ true
-    → commandOf w p .passed ≡ true → Says (w .state) rule p (addressOf p .0) (lengthOf (rule .length) p)
-unfolding commandOf verdict
-passed-says w p rule known opens e = here (noneB (commandHouse w p)) refl
+pub passed-says : (w : World) (p : List ℕ) (rule : Rule) → ruleOf p ≡ Base rule → opensB (rule .routine) ≡ true → callOf w (Command p) .heard .passed ≡ true
+    → Says (w .state .media) (w .state .host) rule p (addressOf p .0) (lengthOf (rule .length) p)
+passed-says w p rule known opens =
+    by-call w (Command p) (λ (a : Reply). a .heard .passed ≡ true → Said) (λ _ e. absurd (false≢true e))
+    (λ none e. here (command-admits w p .0 none .0) (verdict (w .state .media) (w .state .host) p) refl e)
   where
-    here : (b : Bool) → noneB (commandHouse w p) ≡ b → Says (w .state) rule p (addressOf p .0) (lengthOf (rule .length) p)
-    here false q = absurd (false≢true (rw q at e))
-    here true q =
-        let v = verdict (w .state) p in
-        let passes = rw known at (sym (passed-as w p v) ∙ (rw q at e)) in
-        let same : v ≡ Passes rule = rw known (passing (w .state) rule p passes .1) in
-        record { long = was-ready w p q .0; passes = same; address = refl; blocks = refl; within = in-range (w .state) rule p known opens same }
+    Said : Type 0
+    Said = Says (w .state .media) (w .state .host) rule p (addressOf p .0) (lengthOf (rule .length) p)
+
+    here : length p ≡ 12 → (v : Verdict) → verdict (w .state .media) (w .state .host) p ≡ v → replyTo v w p .heard .passed ≡ true → Said
+    here long (Fails sense) q e = absurd (false≢true e)
+    here long (Passes own) q e =
+        let all = passed (w .state .media) (w .state .host) p own q in
+        let is : own ≡ rule = let k = all .known in cc in
+        record { long = long; passes = rw is at q; address = refl; blocks = refl; within = in-range (rw is at all) opens }

@@ -1,20 +1,18 @@
 -- What is heard of a device that meets the demands is the ledger's alone, so two such devices are heard alike. Assumes nothing.
-use mathlib.Core.Path.{_≡_, refl, sym, ap, _∙_}
-use mathlib.Core.List.{List, [], _∷_}
-use Prim.Native.Nat.{ℕ}
-use lib.ListN.{length}
+use Rattle.ground.specs.Kit.{_≡_, refl, sym, ap, _∙_, List, [], _∷_, ℕ, length}
 use Rattle.disc.specs.Formats.{formatOf, blockBytes, runBytes, discBytes, bufferBytes}
-use Rattle.house.specs.World.{World, world}
+use Rattle.house.specs.World.{World, inState, Heard}
 use Rattle.house.specs.Theorems.{Ready}
 use Rattle.house.proofs.Houses.{admits}
-use Rattle.drive.proofs.Keeps.{power-on-sound}
-use Rattle.demands.specs.Device.{Call, Feed, Heard, Device}
+use Rattle.drive.specs.Calls.{Call, Feed}
+use Rattle.drive.proofs.Calling.{same-house}
+use Rattle.drive.proofs.Staying.{power-on-sound}
+use Rattle.demands.specs.Device.{Device}
 use Rattle.demands.specs.Answered.{Answered}
 use Rattle.demands.specs.Ledger.{Ledger, known, noted}
 use Rattle.demands.specs.Faithful.{Run, step, run, poweredOn, Accounted, Faithful, foretold}
-use Rattle.demands.proofs.Calls.{same-house}
 use Rattle.demands.proofs.Foretelling.{foretold-house}
-use Rattle.demands.specs.Demands.{heardIn, HeardAlike}
+use Rattle.demands.specs.Together.{heardIn, HeardAlike}
 
 -- a run of a device so far: the world is ready, and whatever follows is accounted for
 record Going (d : Device) (r : Run) : Type 0 where
@@ -25,20 +23,19 @@ goes-on : (d : Device) → Answered d → (r : Run) → Going d r → (c : Call)
 goes-on d a r g c = record { ready = a .stays (r .world) c (g .ready); accounted = λ cs. g .accounted (c ∷ cs) }
 
 -- the lengths that are lent are those that the ledger knows of
-knows-lengths : (d : Device) → Answered d → (r : Run) → Going d r → Ready (world (known (r .ledger .facts)) (r .world .buffer) (r .world .disc))
+knows-lengths : (d : Device) → Answered d → (r : Run) → Going d r → Ready (inState (r .world) (known (r .ledger)))
 knows-lengths d a r g =
     let w = r .world in
     let heard = ap (λ (h : Heard). h .house) (g .accounted [] .hears (Feed [])) in
-    admits (world (known (r .ledger .facts)) (w .buffer) (w .disc)) .0
-    (sym (heard ∙ foretold-house (r .ledger) (w .buffer) (w .disc) (Feed [])) ∙ a .numbered w (Feed []) ∙ admits w .1 (g .ready))
+    admits (inState w (known (r .ledger))) .0
+    (sym (heard ∙ foretold-house (r .ledger) w (Feed [])) ∙ a .numbered w (Feed []) ∙ admits w .1 (g .ready))
 
 -- and no more of them is asked
 same-foretold : (l : Ledger) (w v : World) → length (w .buffer) ≡ length (v .buffer) → length (w .disc) ≡ length (v .disc) → (c : Call)
-    → foretold l (w .buffer) (w .disc) c ≡ foretold l (v .buffer) (v .disc) c
+    → foretold l w c ≡ foretold l v c
 unfolding foretold
 same-foretold l w v b d c =
-    let k = known (l .facts) in
-    rw (same-house (world k (w .buffer) (w .disc)) (world k (v .buffer) (v .disc)) refl refl b d c)
+    rw (same-house (inState w (known l)) (inState v (known l)) refl refl b d c)
 
 module _ (d e : Device) (a : Answered d) (b : Answered e) where
   -- from runs with the same ledger on
@@ -49,10 +46,10 @@ module _ (d e : Device) (a : Answered d) (b : Answered e) where
       let v = q .world in
       let k = knows-lengths d a r g in
       let m = knows-lengths e b q h in
-      let number = ap (λ (l : Ledger). discBytes (l .facts .number)) same in
+      let number = ap (λ (l : Ledger). discBytes (l .media .disc)) same in
       let foretold-alike = same-foretold (q .ledger) w v (k .buffer ∙ sym (m .buffer)) (k .disc ∙ number ∙ sym (m .disc)) c in
       let heard : d .call w c .heard ≡ e .call v c .heard = g .accounted [] .hears c
-      ∙ ap (λ (l : Ledger). foretold l (w .buffer) (w .disc) c) same
+      ∙ ap (λ (l : Ledger). foretold l w c) same
       ∙ foretold-alike
       ∙ sym (h .accounted [] .hears c) in
       let noted-alike = ap (λ (l : Ledger). noted l c (d .call w c .heard)) same ∙ ap (noted (q .ledger) c) heard in

@@ -1,79 +1,66 @@
 -- While a change is pending and unannounced, nothing but INQUIRY and REQUEST SENSE passes. Assumes nothing.
-use mathlib.Core.Path.{_≡_, refl, sym, _∙_}
-use mathlib.Core.Bool.{Bool, true, false, not, and-true, true≢false, false≢true}
-use mathlib.Core.List.{List, [], _∷_}
-use Prim.Native.Nat.{ℕ}
-use borrow.Author.Tests.{not-false}
-use Rattle.disc.proofs.Truth.{neither}
-use Rattle.state.specs.declared.State.{State}
-use Rattle.state.specs.declared.Attention.the-variants.{PowerOn, Change}
-use Rattle.state.specs.declared.Failure.the-variants.{Pending, Found}
-use Rattle.state.specs.States.{insertedOf, ejectedOf, failedOf}
-use Rattle.packet.specs.Fields.{byteAt}
-use Rattle.packet.specs.Rules.{ruleOf}
-use Rattle.packet.specs.declared.Known.{Known}
-use Rattle.packet.specs.declared.Known.the-variants.{Unknown, Base}
-use Rattle.packet.proofs.First.{none-failed}
-use Rattle.packet.proofs.Table.{freeB, attended}
-use Rattle.checks.specs.Checks.{failsB, failing, checksOf, verdict}
-use Rattle.checks.specs.declared.Verdict.{Verdict}
+use Rattle.ground.specs.Kit.{_≡_, refl, sym, _∙_, Bool, true, false, not, and-true, false≢true, List, [], _∷_, ℕ, not-false}
+use Rattle.state.specs.declared.{Media.Media, Host.Host}
+use Rattle.packet.specs.declared.{Rule.Rule}
+use Rattle.checks.specs.declared.{Verdict.Verdict}
+use Rattle.ground.proofs.Truth.{neither}
+use Rattle.state.specs.Senses.{changeTold, sameB}
+use Rattle.state.specs.States.{insertedOf, ejectedOf, obeyedOf, movedOf}
+use Rattle.packet.specs.Rules.{codeOf}
+use Rattle.packet.proofs.BaseCommands.{freeB, attended}
+use Rattle.checks.specs.Verdicts.{verdict}
 use Rattle.checks.specs.declared.Verdict.the-variants.{Passes, Fails}
-use Rattle.checks.proofs.Passing.{passesB}
-use Rattle.house.specs.World.{World}
-use Rattle.house.proofs.Houses.{admits}
-use Rattle.commands.specs.Commands.{obeyedOf}
-use Rattle.drive.proofs.Kept.{obeyed-flags, feed-keeps-flags, pull-keeps-flags}
-use Rattle.demands.specs.Device.{Call, Insert, Eject, Command, Feed, Pull, Reply, obeys, after, callOf, drive}
-use Rattle.demands.specs.Answered.{houseOf}
+use Rattle.checks.proofs.Passing.{passed}
+use Rattle.house.specs.World.{World, Reply}
+use Rattle.commands.specs.Obeying.{replyTo}
+use Rattle.feeds.proofs.ByTransfer.{by-feeding}
+use Rattle.pulls.proofs.ByTransfer.{by-pulling}
+use Rattle.drive.specs.Calls.{Call, Insert, Eject, Command, Feed, Pull, houseOf, callOf}
+use Rattle.drive.proofs.Calling.{acceptedOf, accepted, by-call, numbered}
+use Rattle.drive.proofs.Commanded.{replied-untold}
+use Rattle.demands.specs.Device.{after, drive}
 use Rattle.demands.specs.Faithful.{answersB, someAnswersB}
-use Rattle.demands.proofs.Answered.{numbered}
-use Rattle.demands.proofs.Calls.{by-house, inserted, ejected, obeyed, fed, pulled}
 
 -- C bars every command that it is asked of
-free : (s : State) (p : List ℕ) → s .change ≡ true → passesB (verdict s p) ≡ true → freeB (byteAt p 0) ≡ true
-unfolding verdict checksOf
-free s p on e = here (ruleOf (byteAt p 0)) refl
-  where
-    here : (k : Known) → ruleOf (byteAt p 0) ≡ k → freeB (byteAt p 0) ≡ true
-    here Unknown q = absurd (false≢true (rw q at e))
-    here (Base rule) q =
-        let holds = none-failed failsB failing passesB (checksOf s rule p) (Passes rule) refl (rw q at e) .0 in
-        not-false (freeB (byteAt p 0)) (sym (and-true (not (freeB (byteAt p 0)))) ∙ (rw (on, attended (byteAt p 0) rule q) at holds .1 .1 .0))
+free : (m : Media) (h : Host) (p : List ℕ) (rule : Rule) → h .change ≡ true → verdict m h p ≡ Passes rule → freeB (codeOf p) ≡ true
+free m h p rule on e =
+    let all = passed m h p rule e in
+    not-false (freeB (codeOf p)) (sym (and-true (not (freeB (codeOf p)))) ∙ (rw (on, attended p rule (all .known)) at (all .change)))
 
-module _ (w : World) (on : w .state .change ≡ true) where
+abbrev Changed : World → Type 0
+Changed w = w .state .host .change ≡ true
+
+module _ (w : World) (on : Changed w) where
   -- a command that fails, but not with 06 28 00, or that passes leaves the change pending
-  after-verdict : (p : List ℕ) (v : Verdict) → answersB (Command p) (obeys (obeyedOf v w p) .heard) ≡ false
-      → obeyedOf v w p .world .state .change ≡ true
-  unfolding failedOf
-  after-verdict p (Fails (Pending PowerOn)) e = on
-  after-verdict p (Fails (Pending Change)) e = absurd (true≢false e)
-  after-verdict p (Fails (Found fault)) e = on
-  after-verdict p (Passes rule) e = obeyed-flags w p (Passes rule) refl .change ∙ on
+  after-verdict : (p : List ℕ) (v : Verdict) → answersB (Command p) (replyTo v w p .heard) ≡ false → Changed (replyTo v w p .world)
+  unfolding obeyedOf
+  after-verdict p (Fails sense) e = let other : sameB sense changeTold ≡ false = e in rw (other, on)
+  after-verdict p (Passes rule) e = replied-untold w p (Passes rule) refl .change ∙ on
 
-  after-accepted : (c : Call) → houseOf w c ≡ 0 → answersB c (callOf w c .heard) ≡ false → callOf w c .world .state .change ≡ true
-  unfolding insertedOf ejectedOf
-  after-accepted (Insert number prot disc) none e = rw (inserted w number prot disc none)
-  after-accepted Eject none e = rw (ejected w none) on
-  after-accepted (Command p) none e = rw (obeyed w p none) (after-verdict p (verdict (w .state) p) (rw (obeyed w p none) at e))
-  after-accepted (Feed piece) none e = rw (fed w piece) (feed-keeps-flags w (admits w .0 none) piece .change ∙ on)
-  after-accepted (Pull out) none e = rw (pulled w out) (pull-keeps-flags w (admits w .0 none) out .change ∙ on)
+  after-accepted : (c : Call) → answersB c (acceptedOf w c .heard) ≡ false → Changed (acceptedOf w c .world)
+  unfolding insertedOf ejectedOf movedOf
+  after-accepted (Insert number prot disc) e = refl
+  after-accepted Eject e = on
+  after-accepted (Command p) e = after-verdict p (verdict (w .state .media) (w .state .host) p) e
+  after-accepted (Feed piece) e = by-feeding w piece (λ a. Changed (a .world)) (λ _. on) (λ _ _. on)
+  after-accepted (Pull out) e = by-pulling w out (λ a. Changed (a .world)) (λ _. on) (λ _ _. on) (λ _ _. on)
 
   -- and so does any call that doesn't answer it
-  after-any : (c : Call) → answersB c (callOf w c .heard) ≡ false → callOf w c .world .state .change ≡ true
-  after-any c = by-house w c (λ (a : Reply). answersB c (a .heard) ≡ false → a .world .state .change ≡ true) (λ _ _. on) (after-accepted c)
+  after-any : (c : Call) → answersB c (callOf w c .heard) ≡ false → Changed (callOf w c .world)
+  after-any c = by-call w c (λ (a : Reply). answersB c (a .heard) ≡ false → Changed (a .world)) (λ _ _. on) (λ _. after-accepted c)
 
   -- of the commands only those pass that C isn't asked of
-  only-free : (p : List ℕ) → callOf w (Command p) .heard .passed ≡ true → freeB (byteAt p 0) ≡ true
+  only-free : (p : List ℕ) → callOf w (Command p) .heard .passed ≡ true → freeB (codeOf p) ≡ true
   only-free p =
-      by-house w (Command p) (λ (a : Reply). a .heard .passed ≡ true → freeB (byteAt p 0) ≡ true) (λ _ e. absurd (false≢true e))
-      (λ none e. here (verdict (w .state) p) refl (rw (obeyed w p none) at e))
+      by-call w (Command p) (λ (a : Reply). a .heard .passed ≡ true → freeB (codeOf p) ≡ true) (λ _ e. absurd (false≢true e))
+      (λ _ e. here (verdict (w .state .media) (w .state .host) p) refl e)
     where
-      here : (v : Verdict) → verdict (w .state) p ≡ v → obeyedOf v w p .passed ≡ true → freeB (byteAt p 0) ≡ true
-      here (Fails f) q e = absurd (false≢true e)
-      here (Passes rule) q e = free (w .state) p on (rw q)
+      here : (v : Verdict) → verdict (w .state .media) (w .state .host) p ≡ v → replyTo v w p .heard .passed ≡ true → freeB (codeOf p) ≡ true
+      here (Fails sense) q e = absurd (false≢true e)
+      here (Passes rule) q e = free (w .state .media) (w .state .host) p rule on q
 
 -- any run that doesn't answer it
-pending : (cs : List Call) (w : World) → w .state .change ≡ true → someAnswersB drive w cs ≡ false → after drive w cs .state .change ≡ true
+pending : (cs : List Call) (w : World) → Changed w → someAnswersB drive w cs ≡ false → Changed (after drive w cs)
 pending [] w on e = on
 pending (c ∷ cs) w on e =
     let (first, rest) = neither (answersB c (callOf w c .heard)) (someAnswersB drive (callOf w c .world) cs) e in
@@ -84,9 +71,10 @@ pub announced : (w : World) (number : ℕ) (prot : Bool) (disc : List ℕ) (cs :
     inserted .heard .house ≡ 0
     → someAnswersB drive (inserted .world) cs ≡ false
     → callOf (after drive (inserted .world) cs) (Command p) .heard .passed ≡ true
-    → freeB (byteAt p 0) ≡ true
+    → freeB (codeOf p) ≡ true
 unfolding insertedOf
 announced w number prot disc cs p none e passed =
-    let v = callOf w (Insert number prot disc) .world in
-    let on : v .state .change ≡ true = rw (inserted w number prot disc (sym (numbered w (Insert number prot disc)) ∙ none)) in
+    let c = Insert number prot disc in
+    let v = callOf w c .world in
+    let on : Changed v = rw (accepted w c (sym (numbered w c) ∙ none)) in
     only-free (after drive v cs) (pending cs v on e) p passed

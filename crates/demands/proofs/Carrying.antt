@@ -1,34 +1,29 @@
 -- A READ or WRITE that is carried through, whole or cut into consecutive commands, moves the same bytes. Assumes nothing.
-use mathlib.Core.Path.{_≡_, refl, sym, ap, subst, _∙_}
-use mathlib.Core.Bool.{true, not, _&&_, _||_, false≢true}
-use mathlib.Core.List.{List, [], _∷_, _++_, append-nil, flatten}
-use Prim.Native.Nat.{ℕ, _+_, _-_, _≤_, min}
-use native.Mathlib.Nat.{add-zero, zero-mul}
-use native.Mathlib.Omega.{arith}
-use lib.ListN.{length, take, drop, length-drop, length-append, take-append-drop}
-use lib.Seq.{length-take-le, take-at, drop-length}
+use Rattle.ground.specs.Kit.{_≡_, refl, sym, ap, subst, _∙_, true, not, _&&_, _||_, false≢true, List, [], _∷_, _++_, append-nil, flatten, ℕ, _+_, _-_, _≤_, min, add-zero, zero-mul, arith, length, take, drop, length-drop, length-append, take-append-drop, length-take-le, take-at, drop-length}
+use Rattle.disc.specs.declared.{BlockAddress.BlockAddress}
+use Rattle.state.specs.declared.{State.State}
+use Rattle.packet.specs.declared.{Routine.Routine, Rule.Rule}
 use Rattle.disc.specs.Formats.{blockBytes, runBytes, placeOf}
-use Rattle.state.specs.States.{passedOf, movedOf}
-use Rattle.state.specs.declared.State.{State}
+use Rattle.disc.proofs.Discs.{run-add, run-within}
+use Rattle.state.specs.Senses.{noSense}
+use Rattle.state.specs.States.{obeyedOf, movedOf}
 use Rattle.state.specs.declared.Transfer.the-variants.{Closed}
-use Rattle.packet.specs.Fields.{byteAt, addressOf, lengthOf}
-use Rattle.packet.specs.Rules.{rules, ruleOf}
+use Rattle.packet.specs.Fields.{addressOf, lengthOf}
+use Rattle.packet.specs.Rules.{codeOf, rules, ruleOf}
 use Rattle.packet.specs.declared.Known.the-variants.{Base}
-use Rattle.packet.specs.declared.Routine.{Routine}
 use Rattle.packet.specs.declared.Routine.the-variants.{Nothing, Motor, Answer, Read, Write}
-use Rattle.packet.specs.declared.Rule.{Rule}
-use Rattle.packet.proofs.Table.{of-base, opensB, writesB}
-use Rattle.checks.specs.Checks.{checksOf, verdict}
-use Rattle.house.specs.World.{World, world}
+use Rattle.packet.proofs.BaseCommands.{of-base, opensB, writesB}
+use Rattle.checks.specs.Verdicts.{checksOf, verdict}
+use Rattle.house.specs.World.{World, inState, inBuffer, inDisc, Reply, reply}
 use Rattle.house.specs.Theorems.{Ready}
-use Rattle.commands.specs.Commands.{after, spanOf, routineOf, performedOf, Commanded, commandOf}
-use Rattle.commands.proofs.Entering.{let-in}
-use Rattle.drive.specs.Theorems.{Command}
-use Rattle.drive.proofs.Kept.{call-ready}
-use Rattle.demands.specs.Device.{Call, Command as CommandCall, Feed, Pull, Reply, Device, callOf, drive}
+use Rattle.commands.specs.Obeying.{spanOf, routineOf, performedOf}
+use Rattle.commands.proofs.Judging.{let-in}
+use Rattle.drive.specs.Calls.{Call, Command, Feed, Pull, callOf}
+use Rattle.drive.proofs.Staying.{stays}
+use Rattle.demands.specs.Device.{Device, drive}
 use Rattle.demands.specs.Uncut.{
-  Lent,
-  lent,
+  Moved,
+  moved,
   lendAll,
   READ,
   WRITE,
@@ -38,6 +33,7 @@ use Rattle.demands.specs.Uncut.{
   carried,
   carry,
   Part,
+  blocksOn,
   carryAll,
   blocksIn,
   Through,
@@ -47,8 +43,7 @@ use Rattle.demands.specs.Uncut.{
   Cut,
   Cuttings,
 }
-use Rattle.demands.proofs.Blocks.{run-add, run-within}
-use Rattle.demands.proofs.Lending.{Bytes, bytes, Kind, Serves, lends, Puts, feeding, Feeds, feed-served, our-feeds, Gives, reading, Pulls, read-served, fromDisc, our-pulls}
+use Rattle.demands.proofs.Serving.{Bytes, bytes, Kind, Serves, lends, Puts, feeding, Feeds, feed-served, our-feeds, Gives, reading, Pulls, read-served, fromDisc, our-pulls}
 use Rattle.demands.proofs.Cutting.{Way, lent-whole, cut-anywhere, feed-way, pull-way}
 use Rattle.demands.proofs.Alike.{Says, alike-says, passed-says}
 
@@ -63,13 +58,15 @@ record Carrying : Type 0 where
   codes : List ℕ
   lending : Way device way
   serves : Serves device way kind
-  commands : (w : World) (q : List ℕ) → device .call w (CommandCall q) ≡ callOf w (CommandCall q)
+  goes-on : (s : State) (b : List ℕ) (at left : ℕ) → kind .next s b at left ≡ movedOf s (kind .transfer at left)
+  commands : (w : World) (q : List ℕ) → device .call w (Command q) ≡ callOf w (Command q)
   opens : opensB routine ≡ true
-  by-code : (code : ℕ) (rule : Rule) → ruleOf code ≡ Base rule → isIn code codes ≡ true → rule .routine ≡ routine
+  by-code : (p : List ℕ) (rule : Rule) → ruleOf p ≡ Base rule → isIn (codeOf p) codes ≡ true → rule .routine ≡ routine
   performs :
-      (s : State) (p : List ℕ) (n : ℕ) (buffer : List ℕ)
-      → routineOf routine s p n buffer
-      ≡ after (passedOf s (s .motor) (kind .transfer (runBytes (s .disc) (addressOf p .0)) (runBytes (s .disc) n))) buffer
+      (w : World) (p : List ℕ) (n : ℕ)
+      → let number = w .state .media .disc in
+      routineOf routine w p n
+      ≡ inState w (obeyedOf (w .state) noSense (w .state .motor) (kind .transfer (runBytes number (addressOf p .0)) (runBytes number n)))
   long :
       (number at : ℕ) (x buffer disc : List ℕ) → at + length x ≤ length disc
       → length (kind .does number at (length x) x buffer disc .out) ≡ length x
@@ -91,7 +88,7 @@ is-write Write e = refl
 
 -- a device whose commands are ours
 abbrev pub OurCommands : Device → Type 0
-OurCommands d = (w : World) (q : List ℕ) → d .call w (CommandCall q) ≡ callOf w (CommandCall q)
+OurCommands d = (w : World) (q : List ℕ) → d .call w (Command q) ≡ callOf w (Command q)
 
 -- and that gives as many bytes as the disc has
 abbrev pub GivesAll : Gives → Type 0
@@ -109,12 +106,13 @@ readBy {d} {reads} p all commands =
       codes = READ;
       lending = pull-way p;
       serves = read-served p;
+      goes-on = λ s b at left. refl;
       commands = commands;
       opens = refl;
-      by-code = λ code rule known c.
+      by-code = λ p rule known c.
           is-read (rule .routine)
-          (rw c at (of-base (λ code rule. not (isIn code READ) || (opensB (rule .routine) && not (writesB (rule .routine)))) refl code rule known));
-      performs = λ s p n buffer. refl;
+          (rw c at (of-base (λ code rule. not (isIn code READ) || (opensB (rule .routine) && not (writesB (rule .routine)))) refl p rule known));
+      performs = λ w p n. refl;
       long = λ number at x buffer disc h.
           rw (drop-length x, append-nil (reads at (length x) buffer disc)) (all at (length x) buffer disc h);
     }
@@ -131,11 +129,12 @@ writeBy {d} {puts} f commands =
       codes = WRITE;
       lending = feed-way f;
       serves = feed-served f;
+      goes-on = λ s b at left. refl;
       commands = commands;
       opens = refl;
-      by-code = λ code rule known c.
-          is-write (rule .routine) (rw c at (of-base (λ code rule. not (isIn code WRITE) || writesB (rule .routine)) refl code rule known));
-      performs = λ s p n buffer. refl;
+      by-code = λ p rule known c.
+          is-write (rule .routine) (rw c at (of-base (λ code rule. not (isIn code WRITE) || writesB (rule .routine)) refl p rule known));
+      performs = λ w p n. refl;
       long = λ number at x buffer disc h. refl;
     }
 
@@ -169,19 +168,18 @@ Same way d e Kept =
 
 -- ---- one command
 
--- the state after a command that has passed and was carried through
-abbrev settled : State → State
-settled s = passedOf s (s .motor) Closed
+-- the world after a command that has passed, was carried through and moved bytes
+abbrev settled : World → Bytes → World
+settled w m = inDisc (inBuffer (inState w (obeyedOf (w .state) noSense (w .state .motor) Closed)) (m .buffer)) (m .disc)
 
--- and what it moved
-abbrev carriedAs : State → Bytes → Carried
-carriedAs s m = carried true (m .out) (world (settled s) (m .buffer) (m .disc))
+abbrev carriedAs : World → Bytes → Carried
+carriedAs w m = carried true (m .out) (settled w m)
 
 -- a packet says the same then
-says-settled : (s : State) (rule : Rule) (p : List ℕ) → ruleOf (byteAt p 0) ≡ Base rule → (from n : ℕ) → Says s rule p from n
-    → Says (settled s) rule p from n
-unfolding verdict checksOf passedOf
-says-settled s rule p known from n says =
+says-settled : (w : World) (b : Bytes) (rule : Rule) (p : List ℕ) → ruleOf p ≡ Base rule → (from n : ℕ)
+    → Says (w .state .media) (w .state .host) rule p from n → Says (w .state .media) (settled w b .state .host) rule p from n
+unfolding verdict checksOf obeyedOf
+says-settled w b rule p known from n says =
     record {
       long = says .long;
       passes = rw known (rw known at (says .passes));
@@ -196,17 +194,19 @@ module _ (c : Carrying) where
   opens-blocks rule performs = rw performs (c .opens)
 
   -- all of some data, from block `from` on
-  abbrev all-moved : ℕ → ℕ → List ℕ → List ℕ → List ℕ → Bytes
-  all-moved number from x buffer disc = c .kind .does number (runBytes number from) (length x) x buffer disc
+  abbrev all-moved : World → ℕ → List ℕ → Bytes
+  all-moved w from x = let number = w .state .media .disc in c .kind .does number (runBytes number from) (length x) x (w .buffer) (w .disc)
 
   -- n blocks and then others
-  more-moved : (number from n : ℕ) (x y buffer disc : List ℕ) → length x ≡ runBytes number n
-      → let one = all-moved number from x buffer disc in
-      let two = all-moved number (from + n) y (one .buffer) (one .disc) in
-      all-moved number from (x ++ y) buffer disc ≡ bytes (one .out ++ two .out) (two .buffer) (two .disc)
-  more-moved number from n x y buffer disc e =
+  more-moved : (w : World) (from n : ℕ) (x y : List ℕ) → length x ≡ runBytes (w .state .media .disc) n
+      → let one = all-moved w from x in
+      let two = all-moved (settled w one) (from + n) y in
+      all-moved w from (x ++ y) ≡ bytes (one .out ++ two .out) (two .buffer) (two .disc)
+  unfolding obeyedOf
+  more-moved w from n x y e =
+      let number = w .state .media .disc in
       let next : runBytes number from + length x ≡ runBytes number (from + n) = rw (e, run-add number from n) in
-      rw (← length-append x y, next) at (c .serves .more number (runBytes number from) (length y) x y buffer disc)
+      rw (← length-append x y, next) at (c .serves .more number (runBytes number from) (length y) x y (w .buffer) (w .disc))
 
   -- what is lent beyond the bytes that move stays as it is
   rest-stays : (number at n : ℕ) (z buffer disc : List ℕ) → n ≤ length z
@@ -220,157 +220,149 @@ module _ (c : Carrying) where
       (rw (e, take-append-drop n z) at (c .serves .more number at 0 x y buffer disc))
       ∙ rw (c .serves .none number (at + length x) y (one .buffer) (one .disc))
 
-  -- the command's reply is ours
-  as-commanded : (w : World) (q : List ℕ) (pieces : List (List ℕ))
-      → carry (c .device) (c .way) w q pieces
-      ≡ (let m = lendAll (c .device) (c .way) (commandOf w q .world) pieces in
-      carried (commandOf w q .passed) (take (m .count) (m .out)) (m .world))
-  unfolding callOf
-  as-commanded w q pieces =
-      ap
-      (λ (a : Reply).
+  -- a command's reply, and what its pieces then move
+  abbrev lendFor : Reply → List (List ℕ) → Carried
+  lendFor a pieces =
       let m = lendAll (c .device) (c .way) (a .world) pieces in
-      carried (a .heard .passed) (take (m .count) (m .out)) (m .world))
-      (c .commands w q)
+      carried (a .heard .passed) (take (m .count) (m .out)) (m .world)
 
-  module _ (s : State) (buffer disc : List ℕ) (r : Ready (world s buffer disc)) (rule : Rule) (performs : rule .routine ≡ c .routine) (q : List ℕ)
-      (from n : ℕ) (says : Says s rule q from n) where
+  -- the reply is ours
+  as-commanded : (w : World) (q : List ℕ) (pieces : List (List ℕ)) → carry (c .device) (c .way) w q pieces ≡ lendFor (callOf w (Command q)) pieces
+  as-commanded w q pieces = ap (λ (a : Reply). lendFor a pieces) (c .commands w q)
+
+  module _ (w : World) (r : Ready w) (rule : Rule) (performs : rule .routine ≡ c .routine) (q : List ℕ) (from n : ℕ)
+      (says : Says (w .state .media) (w .state .host) rule q from n) where
+    abbrev number : ℕ
+    number = w .state .media .disc
+
     abbrev opened : World
-    opened = world (passedOf s (s .motor) (c .kind .transfer (runBytes (s .disc) from) (runBytes (s .disc) n))) buffer disc
+    opened = inState w (obeyedOf (w .state) noSense (w .state .motor) (c .kind .transfer (runBytes number from) (runBytes number n)))
 
     -- the command passes and opens its transfer
-    obeyed : commandOf (world s buffer disc) q ≡ record { house = 0; passed = true; world = opened }
-    unfolding performedOf
-    obeyed =
-        let-in (world s buffer disc) q r (says .long)
-        ∙ rw (says .passes, performs, c .performs s q (lengthOf (rule .length) q) buffer, says .address, says .blocks)
+    obeyed : callOf w (Command q) ≡ reply 0 true 0 [] opened
+    unfolding callOf performedOf
+    obeyed = let-in w q r (says .long) ∙ rw (says .passes, performs, c .performs w q (lengthOf (rule .length) q), says .address, says .blocks)
 
     opened-ready : Ready opened
-    opened-ready = subst (λ (a : Commanded). Ready (a .world)) obeyed (call-ready (world s buffer disc) (Command q) r)
+    opened-ready = subst (λ (a : Reply). Ready (a .world)) obeyed (stays w (Command q) r)
 
-    module _ (pieces : List (List ℕ)) (t : Through (s .disc) n pieces) where
-      abbrev moved : Bytes
-      moved = all-moved (s .disc) from (dataOf (s .disc) n pieces) buffer disc
+    module _ (pieces : List (List ℕ)) (t : Through number n pieces) where
+      abbrev all : Bytes
+      all = all-moved w from (dataOf number n pieces)
 
       -- all bytes of the transfer move, and it closes
       lent-through :
-          lendAll (c .device) (c .way) opened pieces
-          ≡ lent (runBytes (s .disc) n) (moved .out ++ drop (runBytes (s .disc) n) (flatten pieces)) (world (settled s) (moved .buffer) (moved .disc))
-      unfolding passedOf movedOf
+          lendAll (c .device) (c .way) opened pieces ≡ moved (runBytes number n) (all .out ++ drop (runBytes number n) (flatten pieces)) (settled w all)
+      unfolding obeyedOf movedOf
       lent-through =
-          let at = runBytes (s .disc) from in
-          let left = runBytes (s .disc) n in
+          let at = runBytes number from in
+          let left = runBytes number n in
           let z = flatten pieces in
           let enough = t in
-          let all : min (length z) left ≡ left = omega arith in
+          let most : min (length z) left ≡ left = omega arith in
           let none : left - left ≡ 0 = omega arith in
           lent-whole (c .lending) opened pieces opened-ready
           ∙ lends (c .serves) opened at left refl z opened-ready
-          ∙ rw (all, none, c .serves .left (at + left) 0, rest-stays (s .disc) at left z buffer disc enough)
+          ∙ rw (most, none, rest-stays number at left z (w .buffer) (w .disc) enough, c .goes-on, c .serves .left (at + left) 0)
 
       -- the command passed, and these bytes moved
-      carried-through : carry (c .device) (c .way) (world s buffer disc) q pieces ≡ carriedAs s moved
-      unfolding callOf
+      carried-through : carry (c .device) (c .way) w q pieces ≡ carriedAs w all
       carried-through =
-          let number = s .disc in
           let left = runBytes number n in
           let x = dataOf number n pieces in
           let l = data-long number n pieces t in
           let within = run-within number from n (says .within) in
-          let room : runBytes number from + length x ≤ length disc = rw (l, r .disc) within in
-          as-commanded (world s buffer disc) q pieces
-          ∙ ap
-          (λ (a : Commanded).
-          let m = lendAll (c .device) (c .way) (a .world) pieces in
-          carried (a .passed) (take (m .count) (m .out)) (m .world))
-          obeyed
-          ∙ ap (λ (m : Lent). carried true (take (m .count) (m .out)) (m .world)) lent-through
-          ∙ rw (take-at (moved .out) (drop left (flatten pieces)) left (c .long number (runBytes number from) x buffer disc room ∙ l))
+          let room : runBytes number from + length x ≤ length (w .disc) = rw (l, r .disc) within in
+          as-commanded w q pieces
+          ∙ ap (λ (a : Reply). lendFor a pieces) obeyed
+          ∙ ap (λ (m : Moved). carried true (take (m .count) (m .out)) (m .world)) lent-through
+          ∙ rw (take-at (all .out) (drop left (flatten pieces)) left (c .long number (runBytes number from) x (w .buffer) (w .disc) room ∙ l))
 
   -- ---- consecutive commands
 
   -- a world stays ready
   carry-ready : (w : World) (q : List ℕ) (pieces : List (List ℕ)) → Ready w → Ready (carry (c .device) (c .way) w q pieces .world)
   carry-ready w q pieces r =
-      let v = commandOf w q .world in
-      let rv = call-ready w (Command q) r in
-      let after = subst (λ (l : Lent). Ready (l .world)) (sym (lent-whole (c .lending) v pieces rv)) (c .lending .ready v (flatten pieces) rv) in
+      let v = callOf w (Command q) .world in
+      let rv = stays w (Command q) r in
+      let after = subst (λ (l : Moved). Ready (l .world)) (sym (lent-whole (c .lending) v pieces rv)) (c .lending .ready v (flatten pieces) rv) in
       subst (λ (y : Carried). Ready (y .world)) (sym (as-commanded w q pieces)) after
 
   module _ (d : Device) (Kept : List (List ℕ) → Type 0) (as-ours : Same (c .way) (c .device) d Kept)
-      (rule : Rule) (performs : rule .routine ≡ c .routine) (p : List ℕ) (known : ruleOf (byteAt p 0) ≡ Base rule) (a l : ℕ) where
+      (rule : Rule) (performs : rule .routine ≡ c .routine) (p : List ℕ) (known : ruleOf p ≡ Base rule) (a l : ℕ) where
+    -- p says so, in this world
+    abbrev Here : World → Type 0
+    Here w = Ready w × Says (w .state .media) (w .state .host) rule p a l
+
     -- the parts move what all of their data at once would
-    abbrev PartsMove : State → List ℕ → List ℕ → ℕ → List Part → Type 0
-    PartsMove s buffer disc from parts =
-        carryAll d (c .way) (world s buffer disc) (rule .length) p from parts
-        ≡ carriedAs s (all-moved (s .disc) from (dataIn (s .disc) parts) buffer disc)
+    abbrev PartsMove : World → BlockAddress → List Part → Type 0
+    PartsMove w from parts =
+        carryAll d (c .way) w (rule .length) p from parts ≡ carriedAs w (all-moved w (from .0) (dataIn (w .state .media .disc) parts))
 
     -- one part and then the others
-    part-moves : (s : State) (buffer disc : List ℕ) → Ready (world s buffer disc) → Says s rule p a l → (from : ℕ) (x : Part) (xs : List Part)
-        → a ≤ from → from + blocksIn (x ∷ xs) ≤ a + l → AllThrough (s .disc) (x ∷ xs) → Kept (x .pieces)
-        → ((b d : List ℕ) → Ready (world (settled s) b d) → PartsMove (settled s) b d (from + x .blocks) xs) → PartsMove s buffer disc from (x ∷ xs)
-    unfolding passedOf
-    part-moves s buffer disc r says from x xs low high through kept rest =
-        let number = s .disc in
+    part-moves : (w : World) → Here w → (from : BlockAddress) (x : Part) (xs : List Part) → a ≤ from .0 → from .0 + blocksIn (x ∷ xs) ≤ a + l
+        → AllThrough (w .state .media .disc) (x ∷ xs) → Kept (x .pieces)
+        → ((b : Bytes) → Here (settled w b) → PartsMove (settled w b) (blocksOn from (x .blocks)) xs) → PartsMove w from (x ∷ xs)
+    unfolding obeyedOf
+    part-moves w (r, says) from x xs low high through kept rest =
+        let number = w .state .media .disc in
         let n = x .blocks in
-        let w = world s buffer disc in
         let q = alike (rule .length) p from n in
-        let q-says = alike-says s rule p known (opens-blocks rule performs) a l from n says (through .0) low (omega arith) in
-        let one = all-moved number from (dataOf number n (x .pieces)) buffer disc in
-        let e = carried-through s buffer disc r rule performs q from n q-says (x .pieces) (through .1) in
+        let q-says = alike-says (w .state .media) (w .state .host) rule p (opens-blocks rule performs) a l from n says (through .0) low (omega arith) in
+        let one = all-moved w (from .0) (dataOf number n (x .pieces)) in
+        let e = carried-through w r rule performs q (from .0) n q-says (x .pieces) (through .1) in
         let ready = subst (λ (y : Carried). Ready (y .world)) e (carry-ready w q (x .pieces) r) in
         ap
         (λ (y : Carried).
-        let m = carryAll d (c .way) (y .world) (rule .length) p (from + n) xs in
+        let m = carryAll d (c .way) (y .world) (rule .length) p (blocksOn from n) xs in
         carried (y .passed && m .passed) (y .bytes ++ m .bytes) (m .world))
         (as-ours w q (x .pieces) kept (ap (λ (y : Carried). y .world .state .transfer) e) ∙ e)
-        ∙ ap (λ (m : Carried). carried (m .passed) (one .out ++ m .bytes) (m .world)) (rest (one .buffer) (one .disc) ready)
-        ∙ rw (more-moved number from n (dataOf number n (x .pieces)) (dataIn number xs) buffer disc (data-long number n (x .pieces) (through .1)))
+        ∙ ap (λ (m : Carried). carried (m .passed) (one .out ++ m .bytes) (m .world)) (rest one (ready, says-settled w one rule p known a l says))
+        ∙ rw (more-moved w (from .0) n (dataOf number n (x .pieces)) (dataIn number xs) (data-long number n (x .pieces) (through .1)))
 
-    -- from a settled state on, none or more parts
-    parts-move : (s : State) (buffer disc : List ℕ) → Ready (world (settled s) buffer disc) → Says (settled s) rule p a l
-        → (from : ℕ) (parts : List Part) → a ≤ from → from + blocksIn parts ≤ a + l → AllThrough (s .disc) parts → All Kept parts
-        → PartsMove (settled s) buffer disc from parts
-    unfolding passedOf
-    parts-move s buffer disc r says from [] low high through kept = rw (c .serves .none (s .disc) (runBytes (s .disc) from) [] buffer disc)
-    parts-move s buffer disc r says from (x ∷ xs) low high through kept =
-        part-moves (settled s) buffer disc r says from x xs low high through (kept .0)
-        (λ b d ready. parts-move s b d ready says (from + x .blocks) xs (omega arith) (omega arith) (through .2) (kept .1))
+    -- from a settled world on, none or more parts
+    parts-move : (w : World) (b : Bytes) → Here (settled w b) → (from : BlockAddress) (parts : List Part) → a ≤ from .0 → from .0 + blocksIn parts ≤ a + l
+        → AllThrough (w .state .media .disc) parts → All Kept parts → PartsMove (settled w b) from parts
+    unfolding obeyedOf
+    parts-move w b here from [] low high through kept =
+        let number = w .state .media .disc in
+        rw (c .serves .none number (runBytes number (from .0)) [] (b .buffer) (b .disc))
+    parts-move w b here from (x ∷ xs) low high through kept =
+        part-moves (settled w b) here from x xs low high through (kept .0)
+        (λ b′ here′. parts-move w b′ here′ (blocksOn from (x .blocks)) xs (omega arith) (omega arith) (through .2) (kept .1))
 
   -- ---- whole or cut
 
   -- where the data of the parts and the data of the whole move alike
   cut-carried : (d : Device) (Kept : List (List ℕ) → Type 0) → Same (c .way) (c .device) d Kept → (w : World) (p : List ℕ) (rule : Rule)
       (pieces : List (List ℕ)) (parts : List Part) → Cut (c .codes) (c .device) w p rule pieces parts → Kept pieces → All Kept parts
-      → let moved : List ℕ → Bytes = λ x. all-moved (w .state .disc) (addressOf p .0) x (w .buffer) (w .disc) in
-      moved (dataIn (w .state .disc) parts) ≡ moved (dataOf (w .state .disc) (lengthOf (rule .length) p) pieces)
-      → carryAll d (c .way) w (rule .length) p (addressOf p .0) parts ≡ carry d (c .way) w p pieces
-  unfolding callOf passedOf
+      → let from : List ℕ → Bytes = all-moved w (addressOf p .0) in
+      from (dataIn (w .state .media .disc) parts) ≡ from (dataOf (w .state .media .disc) (lengthOf (rule .length) p) pieces)
+      → carryAll d (c .way) w (rule .length) p (addressOf p) parts ≡ carry d (c .way) w p pieces
+  unfolding obeyedOf
   cut-carried d Kept as-ours w p rule pieces [] cut kept all same = let some = cut .some in let sum = cut .sum in absurd (omega arith)
-  cut-carried d Kept as-ours w p rule pieces (x ∷ xs) cut kept all same =
-      let s = w .state in
-      let performs = c .by-code (byteAt p 0) rule (cut .known) (cut .code) in
+  cut-carried d Kept as-ours w p rule pieces (x ∷ xs) cut kept every same =
+      let performs = c .by-code p rule (cut .known) (cut .code) in
       let a = addressOf p .0 in
       let l = lengthOf (rule .length) p in
-      let known = cut .known in
       let passes = rw (c .commands w p) at (cut .passes) in
-      let says = passed-says w p rule known (opens-blocks rule performs) passes in
-      let then-says = says-settled s rule p known a l says in
+      let says = passed-says w p rule (cut .known) (opens-blocks rule performs) passes in
       let sum = cut .sum in
-      let whole = carried-through s (w .buffer) (w .disc) (cut .ready) rule performs p a l says pieces (cut .through) in
-      part-moves d Kept as-ours rule performs p known a l s (w .buffer) (w .disc) (cut .ready) says a x xs (omega arith) (omega arith) (cut .all) (all .0)
-      (λ b e ready. parts-move d Kept as-ours rule performs p known a l s b e ready then-says (a + x .blocks) xs (omega arith) (omega arith) (cut .all .2) (all .1))
-      ∙ ap (carriedAs s) same
+      let whole = carried-through w (cut .ready) rule performs p a l says pieces (cut .through) in
+      part-moves d Kept as-ours rule performs p (cut .known) a l w (cut .ready, says) (addressOf p) x xs (omega arith) (omega arith) (cut .all) (every .0)
+      (λ b here.
+      parts-move d Kept as-ours rule performs p (cut .known) a l w b here (blocksOn (addressOf p) (x .blocks)) xs (omega arith) (omega arith) (cut .all .2) (every .1))
+      ∙ ap (carriedAs w) same
       ∙ sym (as-ours w p pieces kept (ap (λ (y : Carried). y .world .state .transfer) whole) ∙ whole)
 
 -- what is read depends on how much is lent, not on what
 module _ {d : Device} {reads answers : Gives} (f : Pulls d reads answers) (all : GivesAll reads) (commands : OurCommands d) where
   pub reads-cut-by : (e : Device) (Kept : List (List ℕ) → Type 0) → Same Pull d e Kept → (w : World) (p : List ℕ) (rule : Rule)
       (pieces : List (List ℕ)) (parts : List Part) → Cut READ d w p rule pieces parts → Kept pieces → All Kept parts
-      → carryAll e Pull w (rule .length) p (addressOf p .0) parts ≡ carry e Pull w p pieces
+      → carryAll e Pull w (rule .length) p (addressOf p) parts ≡ carry e Pull w p pieces
   unfolding readBy
   reads-cut-by e Kept same w p rule pieces parts cut kept every =
-      let number = w .state .disc in
+      let number = w .state .media .disc in
       let l = lengthOf (rule .length) p in
       let x = dataIn number parts in
       let y = dataOf number l pieces in

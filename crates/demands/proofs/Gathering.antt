@@ -1,31 +1,21 @@
 -- Bytes that are fed to the drive and gathered by the ledger leave the same blocks. Assumes nothing.
-use mathlib.Core.Path.{_≡_, refl, sym, ap, _∙_}
-use mathlib.Core.Bool.{Bool, true, false}
-use mathlib.Core.List.{List, [], _∷_, _++_, flatten}
-use Prim.Native.Nat.{ℕ, suc, _+_, _*_, _<_, _≤_}
-use native.Mathlib.Nat.{add-mul, one-mul, lt-of-mul-lt-mul-right}
-use native.Mathlib.Numerals.{add-one}
-use native.Mathlib.Omega.{arith}
-use borrow.Author.Tests.{eqb-true, eqb-false}
-use lib.Dec.{eqb}
-use lib.ListN.{length, take, set, length-set, length-append}
-use lib.Seq.{paste, take-all, take-suc-set}
-use Rattle.feeds.specs.Feeds.{Writing, writing, feedByte, feedBytes}
-use Rattle.feeds.proofs.Feeding.{feed-inside, feed-last, byte-lengths}
-use Rattle.demands.specs.Ledger.{Store, store, gatherByte, gather}
-use Rattle.demands.proofs.Blocks.{Even, even-length, set-even, set-block}
+use Rattle.ground.specs.Kit.{_≡_, refl, sym, ap, _∙_, Bool, true, false, List, [], _∷_, _++_, flatten, ℕ, suc, _+_, _*_, _<_, _≤_, add-mul, one-mul, lt-of-mul-lt-mul-right, add-one, arith, eqb-true, eqb-false, eqb, length, take, set, length-set, length-append, paste, take-all, take-suc-set}
+use Rattle.feeds.specs.Feeding.{Writing, writing, feedByte, feedBytes}
+use Rattle.feeds.proofs.Feeding.{at-byte, feed-inside, feed-last, byte-lengths}
+use Rattle.demands.specs.Ledger.{Store, store, nextBlock, gatherByte, gather}
+use Rattle.demands.proofs.BlockLists.{Even, even-length, set-even, set-block}
 
 module _ (b : ℕ) where
   -- the disc is the ledger's blocks, and the block buffer has of the block being written what the ledger got
   pub record Gathered (s : Store) (w : Writing) : Type 0 where
-    pub at : w .at ≡ s .block * b + length (s .got)
+    pub at : w .at .0 ≡ s .block .0 * b + length (s .got)
     pub short : length (s .got) < b
     pub got : take (length (s .got)) (w .buffer) ≡ s .got
     pub held : b ≤ length (w .buffer)
     pub even : Even b (s .blocks)
     pub disc : w .disc ≡ flatten (s .blocks)
 
-  module _ (s : Store) (w : Writing) (g : Gathered s w) (x : ℕ) (room : w .at < length (w .disc)) where
+  module _ (s : Store) (w : Writing) (g : Gathered s w) (x : ℕ) (room : w .at .0 < length (w .disc)) where
     abbrev more : List ℕ
     more = s .got ++ (x ∷ [])
 
@@ -33,7 +23,7 @@ module _ (b : ℕ) where
     one-more = length-append (s .got) (x ∷ [])
 
     abbrev place : ℕ → Writing
-    place at = writing at (w .buffer) (w .disc)
+    place at = writing (at-byte at) (w .buffer) (w .disc)
 
     -- what the block buffer then has
     abbrev buffer : List ℕ
@@ -46,9 +36,9 @@ module _ (b : ℕ) where
 
     inside : (length more ≡ b → ⊥) → Gathered (store (s .blocks) (s .block) more) (feedByte b w x)
     inside h =
-        let e : feedByte b w x ≡ writing (s .block * b + suc (length (s .got))) buffer (w .disc) =
+        let e : feedByte b w x ≡ writing (at-byte (s .block .0 * b + suc (length (s .got)))) buffer (w .disc) =
         ap (λ (at : ℕ). feedByte b (place at) x) (g .at)
-        ∙ feed-inside b (s .block) (length (s .got)) x (w .buffer) (w .disc) (omega (arith, one-more, g .short)) in
+        ∙ feed-inside b (s .block .0) (length (s .got)) x (w .buffer) (w .disc) (omega (arith, one-more, g .short)) in
         rw e
         (record {
           at = omega (arith, one-more);
@@ -60,23 +50,23 @@ module _ (b : ℕ) where
         })
 
     -- its place is one of the disc's blocks
-    on-disc : s .block < length (s .blocks)
+    on-disc : s .block .0 < length (s .blocks)
     on-disc = lt-of-mul-lt-mul-right b (omega (arith, g .at, room, ap length (g .disc), even-length b (s .blocks) (g .even)))
 
-    last : length more ≡ b → Gathered (store (set (s .blocks) (s .block) more) (s .block + 1) []) (feedByte b w x)
+    last : length more ≡ b → Gathered (store (set (s .blocks) (s .block .0) more) (nextBlock (s .block)) []) (feedByte b w x)
     last h =
-        let e : feedByte b w x ≡ writing (s .block * b + suc (length (s .got))) buffer (paste (w .disc) (s .block * b) buffer b) =
+        let e : feedByte b w x ≡ writing (at-byte (s .block .0 * b + suc (length (s .got)))) buffer (paste (w .disc) (s .block .0 * b) buffer b) =
         ap (λ (at : ℕ). feedByte b (place at) x) (g .at)
-        ∙ feed-last b (s .block) (length (s .got)) x (w .buffer) (w .disc) (omega (arith, one-more)) in
+        ∙ feed-last b (s .block .0) (length (s .got)) x (w .buffer) (w .disc) (omega (arith, one-more)) in
         let stored : take b buffer ≡ take b more = rw (take-all b more (omega arith), ← h) now in
         rw e
         (record {
-          at = omega (arith, one-more, add-mul (s .block) 1 b, one-mul b);
+          at = omega (arith, one-more, add-mul (s .block .0) 1 b, one-mul b);
           short = omega (arith, g .short);
           got = refl;
           held = rw (length-set (w .buffer) (length (s .got)) x) (g .held);
-          even = set-even b more h (s .blocks) (s .block) (g .even);
-          disc = rw (g .disc, stored) (sym (set-block b more h (s .blocks) (s .block) (g .even) on-disc));
+          even = set-even b more h (s .blocks) (s .block .0) (g .even);
+          disc = rw (g .disc, stored) (sym (set-block b more h (s .blocks) (s .block .0) (g .even) on-disc));
         })
 
     pub gathered-byte : Gathered (gatherByte b s x) (feedByte b w x)
@@ -86,7 +76,7 @@ module _ (b : ℕ) where
         here true q = rw q (last (eqb-true (length more) b q))
         here false q = rw q (inside (eqb-false (length more) b q))
 
-  pub gathered : (xs : List ℕ) (s : Store) (w : Writing) → Gathered s w → w .at + length xs ≤ length (w .disc)
+  pub gathered : (xs : List ℕ) (s : Store) (w : Writing) → Gathered s w → w .at .0 + length xs ≤ length (w .disc)
       → Gathered (gather b s xs) (feedBytes b w xs)
   unfolding feedByte
   gathered [] s w g room = g

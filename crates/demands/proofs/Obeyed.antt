@@ -1,27 +1,18 @@
 -- What wrong devices obey all the same. Assumes nothing.
-use mathlib.Core.Path.{_≡_, refl, sym, ap, _∙_}
-use mathlib.Core.Bool.{Bool, true, false}
-use mathlib.Core.List.{List, [], _∷_, _++_}
-use Prim.Native.Nat.{ℕ, suc, _+_}
-use native.Mathlib.Nat.{add-zero}
-use native.Mathlib.Omega.{arith}
-use lib.Dec.{eqb}
-use lib.ListN.{length, take, set, replicate, length-replicate, replicate-append-replicate}
-use lib.Seq.{sets, length-sets}
-use Rattle.state.specs.declared.Transfer.{Transfer}
+use Rattle.ground.specs.Kit.{_≡_, refl, sym, ap, _∙_, Bool, true, false, List, [], _∷_, _++_, ℕ, suc, _+_, add-zero, arith, eqb, length, take, set, replicate, length-replicate, replicate-append-replicate, sets, length-sets}
+use Rattle.state.specs.declared.{Transfer.Transfer}
 use Rattle.state.specs.declared.Transfer.the-variants.{Closed, Answer as AnswerFrom, Read, Write}
-use Rattle.state.specs.States.{withTransfer, movedOf}
-use Rattle.house.specs.World.{World, world}
+use Rattle.state.specs.States.{stateOf, movedOf}
+use Rattle.house.specs.World.{World, inState, inDisc}
 use Rattle.house.specs.Theorems.{Ready}
 use Rattle.house.proofs.Houses.{ready-in}
-use Rattle.feeds.specs.Feeds.{takenOf, feedingOf, feedOf}
-use Rattle.feeds.proofs.Entering.{feeds as feeds-by}
-use Rattle.drive.proofs.Moving.{feed-keeps}
-use Rattle.drive.proofs.Refusing.{feed-refuses}
-use Rattle.demands.specs.Device.{Command, Feed, Pull, Device, callOf, drive}
-use Rattle.demands.specs.Uncut.{Lent, lent, carried, Part}
+use Rattle.drive.specs.Calls.{Command, Feed, Pull, callOf}
+use Rattle.drive.proofs.Calling.{numbered}
+use Rattle.drive.proofs.Staying.{keeps, fed-media}
+use Rattle.demands.specs.Device.{Device, drive}
+use Rattle.demands.specs.Uncut.{Moved, moved, carried, Part}
 use Rattle.demands.specs.Wrong.{handsOutZeros, discardsFeeds, firstBlockOnly, firstPullOnly, pulledOnce, versionOne, storedAt, versionThree, OnePullEach, Obeyed}
-use Rattle.demands.proofs.Lending.{lendOne, Puts, written, Feeds, ourPuts, our-feeds, Gives, Given, Pulls, fromDisc, fromBuffer, our-pulls}
+use Rattle.demands.proofs.Serving.{lendOne, Puts, written, Feeds, ourPuts, our-feeds, Gives, Given, Pulls, fromDisc, fromBuffer, our-pulls}
 use Rattle.demands.proofs.Cutting.{cut-anywhere, feed-way, pull-way}
 use Rattle.demands.proofs.Carrying.{All, Same, reads-cut-by, cuttings, disc-gives}
 
@@ -87,27 +78,20 @@ sets-more (b ∷ x) y disc at =
     rw e (sets-more x y (set disc at b) (suc at))
 
 module _ (w : World) (x : List ℕ) (r : Ready w) where
-  fed-number : (t : Transfer) → feedingOf t w x .world .state .disc ≡ w .state .disc
-  unfolding movedOf
-  fed-number Closed = refl
-  fed-number (AnswerFrom p) = refl
-  fed-number (Read p) = refl
-  fed-number (Write p) = refl
-
   -- after a feed that leaves the block buffer, and a disc as long as it was
-  still-ready : (disc : List ℕ) → length disc ≡ length (w .disc) → Ready (world (feedOf w x .world .state) (w .buffer) disc)
+  still-ready : (disc : List ℕ) → length disc ≡ length (w .disc) → Ready (inDisc (inState w (callOf w (Feed x) .world .state)) disc)
   still-ready disc e =
       record {
-        sound = feed-keeps w x (r .sound);
+        sound = keeps w (Feed x) (r .sound);
         buffer = r .buffer;
-        disc = rw (feeds-by w r x, fed-number (w .state .transfer)) (e ∙ r .disc);
+        disc = rw (fed-media w r x) (e ∙ r .disc);
       }
 
-  accepted : feedOf w x .house ≡ 0
-  accepted = feed-refuses w x .exactly ∙ ready-in w r
+  accepted : callOf w (Feed x) .heard .house ≡ 0
+  accepted = numbered w (Feed x) ∙ ready-in w r
 
 discarded : Feeds discardsFeeds discards
-unfolding callOf takenOf
+unfolding callOf
 discarded =
     record {
       none = λ number at buffer disc. refl;
@@ -130,12 +114,12 @@ stored-length (Read p) disc x n = refl
 stored-length (Write p) disc x n = length-sets disc (p .at .0) (take n x)
 
 stored : Feeds versionThree stores
-unfolding callOf takenOf
+unfolding callOf
 stored =
     record {
       none = λ number at buffer disc. refl;
       more = λ number at x y buffer disc. rw (sets-more x y disc at);
-      ready = λ w x r. rw (accepted w x r) (still-ready w x r _ (stored-length (w .state .transfer) (w .disc) x (feedOf w x .count)));
+      ready = λ w x r. rw (accepted w x r) (still-ready w x r _ (stored-length (w .state .transfer) (w .disc) x (callOf w (Feed x) .heard .count)));
       unfed = λ w x e. rw (e, stored-none (w .state .transfer) (w .disc) x);
       fed = λ w p x e f. rw (e, f);
     }
@@ -152,7 +136,7 @@ closing-pull w x closed = here (eqb (callOf w (Pull x) .heard .house) 0) refl
     here true q =
         let a = callOf w (Pull x) in
         let v = a .world in
-        let left : Transfer → Lent = λ t. lent (a .heard .count) (a .heard .out) (world (withTransfer (v .state) (v .state .sense) t) (v .buffer) (v .disc)) in
+        let left : Transfer → Moved = λ t. moved (a .heard .count) (a .heard .out) (inState v (stateOf (v .state .media) (v .state .motor) (v .state .host) t)) in
         rw q (ap left (ap pulledOnce closed ∙ sym closed))
 
 one-pull : Same Pull drive firstPullOnly (λ pieces. length pieces ≡ 1)
@@ -160,7 +144,7 @@ one-pull w q [] one closed = absurd (omega arith)
 one-pull w q (x ∷ (y ∷ ys)) one closed = absurd (omega arith)
 one-pull w q (x ∷ []) one closed =
     let v = callOf w (Command q) in
-    ap (λ (l : Lent). carried (v .heard .passed) (take (l .count + 0) (l .out ++ [])) (l .world)) (closing-pull (v .world) x closed)
+    ap (λ (l : Moved). carried (v .heard .passed) (take (l .count + 0) (l .out ++ [])) (l .world)) (closing-pull (v .world) x closed)
 
 one-each : (parts : List Part) → OnePullEach parts → All (λ pieces. length pieces ≡ 1) parts
 one-each [] e = tt

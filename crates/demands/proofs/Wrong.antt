@@ -1,20 +1,14 @@
 -- Each wrong device breaks demand 2. Assumes nothing.
-use mathlib.Core.Path.{_≡_, refl, sym, ap, _∙_}
-use mathlib.Core.Bool.{true, false, true≢false, false≢true}
-use mathlib.Core.List.{List, [], _∷_, _++_, flatten}
-use Prim.Native.Nat.{ℕ, _<_, _+_}
-use native.Mathlib.Omega.{arith}
-use borrow.Author.Tests.{eq-eqb, ne-eqb}
-use lib.ListN.{length, getD, set, length-replicate, length-append}
-use lib.Seq.{take-all, append-snoc}
+use Rattle.ground.specs.Kit.{_≡_, refl, sym, ap, _∙_, true, false, true≢false, false≢true, List, [], _∷_, _++_, flatten, ℕ, _<_, _+_, arith, eq-eqb, ne-eqb, length, getD, set, length-replicate, length-append, take-all, append-snoc}
+use Rattle.disc.specs.declared.{BlockAddress.BlockAddress}
+use Rattle.state.specs.declared.{Sense.Sense}
 use Rattle.disc.specs.Formats.{bufferBytes, formatOf, blockBytes}
-use Rattle.state.specs.declared.Sense.{Sense}
-use Rattle.answer.specs.Bytes.{zeros}
-use Rattle.house.specs.World.{World}
-use Rattle.feeds.specs.Feeds.{takenOf}
-use Rattle.demands.specs.Device.{Call, Insert, Command, Feed, Pull, Reply, Device, after, Heard}
+use Rattle.ground.specs.Bytes.{zeros}
+use Rattle.house.specs.World.{World, Heard, Reply}
+use Rattle.drive.specs.Calls.{Call, Insert, Command, Feed, Pull}
+use Rattle.demands.specs.Device.{Device, after}
 use Rattle.demands.specs.Answered.{Judged}
-use Rattle.demands.specs.Ledger.{store, blocksOf, gather, noted}
+use Rattle.demands.specs.Ledger.{store, nextBlock, blocksOf, gather, noted}
 use Rattle.demands.specs.Faithful.{someAnswersB, Faithful}
 use Rattle.demands.specs.Wrong.{
   altered,
@@ -32,15 +26,15 @@ use Rattle.demands.specs.Wrong.{
   Excluded,
 }
 use Rattle.demands.proofs.Foretelling.{foretold-accepted}
-use Rattle.demands.proofs.Runs.{takes, gives, test, inquiry, empty, inserted, power-told, Starts, Ours, ours, from-reading, from-writing}
+use Rattle.demands.proofs.Starting.{takes, gives, test, inquiry, empty, inserted, power-told, Starts, Ours, ours, from-reading, from-writing}
 
 -- a list that starts with 0 is none that starts with 7
 starts-otherwise : {l k : List ℕ} → l ≡ k → getD l 0 0 ≡ 0 → getD k 0 0 ≡ 7 → ⊥
 starts-otherwise e zero seven = let same = ap (λ (l : List ℕ). getD l 0 0) e in omega arith
 
 -- bytes that complete a block, gathered one after the other, replace it
-gather-whole : (size : ℕ) (blocks : List (List ℕ)) (block : ℕ) (got xs : List ℕ) → 0 < length xs → length got + length xs ≡ size
-    → gather size (store blocks block got) xs ≡ store (set blocks block (got ++ xs)) (block + 1) []
+gather-whole : (size : ℕ) (blocks : List (List ℕ)) (block : BlockAddress) (got xs : List ℕ) → 0 < length xs → length got + length xs ≡ size
+    → gather size (store blocks block got) xs ≡ store (set blocks (block .0) (got ++ xs)) (nextBlock block) []
 gather-whole size blocks block got [] some e = absurd (omega arith)
 gather-whole size blocks block got (x ∷ []) some e = rw (length-append got (x ∷ []), e, eq-eqb size size refl)
 gather-whole size blocks block got (x ∷ (y ∷ ys)) some e =
@@ -110,7 +104,7 @@ module _ (buffer rest : List ℕ) (b : length buffer ≡ bufferBytes) (d : lengt
   never-ready f =
       let a =
       rw (our .starts .inserts, our .starts .tells-power true) at (f .accounted buffer [] (Insert 4 false disc ∷ Command test ∷ [])) in
-      let told = foretold-accepted _ buffer disc (Command test) _ (rw (our .tells-again) at (a .hears (Command test))) refl in
+      let told = foretold-accepted _ _ (Command test) _ (rw (our .tells-again) at (a .hears (Command test))) refl in
       let code : _≡_ {A = ℕ} 0x29 0x28 = ap (λ (h : Heard). h .sense .1) told ∙ ap (λ (s : Sense). s .1) (our .change-next) in
       omega arith
 
@@ -136,7 +130,7 @@ module _ (buffer rest : List ℕ) (b : length buffer ≡ bufferBytes) (d : lengt
 
   -- of 513 bytes fed, 512 are taken
   first-block-only : (piece : List ℕ) → length piece ≡ 513 → Faithful firstBlockOnly → ⊥
-  unfolding takenOf formatOf blockBytes
+  unfolding formatOf blockBytes
   first-block-only piece l f =
       let s : Starts buffer disc (firstBlockOnly .call) = record {
         inserts = our .starts .inserts;
@@ -148,17 +142,17 @@ module _ (buffer rest : List ℕ) (b : length buffer ≡ bufferBytes) (d : lengt
 
   -- the one byte that is fed is on the disc
   version-three : Faithful versionThree → ⊥
-  unfolding takenOf flatten noted formatOf blockBytes
+  unfolding flatten noted formatOf blockBytes
   version-three f =
       let a = from-writing buffer disc (versionThree .call) (starts _ _) f 1024 (Feed (0 ∷ []) ∷ []) (our .writes) in
       starts-otherwise {k = flatten (blocksOf 512 64 disc)} ((rw (our .feeds (0 ∷ [])) at (a .holds)) (λ e. omega arith)) refl refl
 
   -- the block that is fed is not
   discards-feeds : (piece : List ℕ) → length piece ≡ 511 → Faithful discardsFeeds → ⊥
-  unfolding takenOf flatten noted formatOf blockBytes
+  unfolding flatten noted formatOf blockBytes
   discards-feeds piece l f =
       let a = from-writing buffer disc (discardsFeeds .call) (starts _ _) f 1024 (Feed (0 ∷ piece) ∷ []) (our .writes) in
-      let whole = gather-whole 512 (blocksOf 512 64 disc) 0 [] (0 ∷ piece) (omega arith) (omega arith) in
+      let whole = gather-whole 512 (blocksOf 512 64 disc) (record { 0 = 0 }) [] (0 ∷ piece) (omega arith) (omega arith) in
       starts-otherwise (sym ((rw (our .feeds (0 ∷ piece), l, take-all 511 piece (omega arith), whole) at (a .holds)) (λ e. omega arith))) refl refl
 
   -- all of them, over any bytes

@@ -1,19 +1,15 @@
 -- Demand 2: "Each command passes or fails by UFI revision 1.0 as narrowed in paper 01, with the triple of the first check that fails.
 -- While only our calls touch the disc, each block read holds the bytes last stored whole since insertion, else those it came in with.
 -- After an accepted insertion, while power stays on, only INQUIRY and REQUEST SENSE pass until some command has answered 06 28 00."
-use mathlib.Core.Path.{_≡_}
-use mathlib.Core.Bool.{Bool, true, false, cond, not, _&&_, _||_}
-use mathlib.Core.List.{List, [], _∷_, _++_, flatten}
-use Prim.Native.Nat.{ℕ, min}
-use lib.Dec.{eqb}
-use lib.ListN.{length, take, drop}
-use Rattle.state.specs.Senses.{triple, sameB}
-use Rattle.packet.specs.Fields.{byteAt}
-use Rattle.checks.specs.Checks.{verdict}
-use Rattle.house.specs.World.{World, world}
-use Rattle.demands.specs.Device.{Call, Insert, Eject, Command, Feed, Pull, Heard, heard, Device, after}
-use Rattle.demands.specs.Answered.{houseOf, lentFor, judgedOf}
-use Rattle.demands.specs.Ledger.{Ledger, blank, known, noted}
+use Rattle.ground.specs.Kit.{_≡_, Bool, true, false, cond, not, _&&_, _||_, List, [], _∷_, _++_, flatten, ℕ, min, eqb, length, take, drop}
+use Rattle.state.specs.Senses.{changeTold, noDisc, sameB}
+use Rattle.packet.specs.Rules.{codeOf}
+use Rattle.checks.specs.Verdicts.{verdict}
+use Rattle.house.specs.World.{World, world, inState, Heard, heard}
+use Rattle.drive.specs.Calls.{Call, Insert, Eject, Command, Feed, Pull, returned, houseOf}
+use Rattle.demands.specs.Device.{Device, after}
+use Rattle.demands.specs.Answered.{judgedOf}
+use Rattle.demands.specs.Ledger.{Ledger, blank, fed, known, noted}
 
 -- ---- "each block read holds the bytes last stored whole since insertion, else those it came in with"
 
@@ -44,35 +40,37 @@ openB l = not (eqb (l .left) 0) || not (eqb (length (l .coming)) 0)
 -- what is heard of an accepted call: by the checks A to H; "A feed takes the first min(piece, left) bytes"; "A pull fills the first
 -- min(buffer, left) bytes of the lent buffer, leaves its tail .. and reports that count."
 abbrev pub foretells : Ledger → Call → Heard
-foretells l (Insert number prot disc) = heard 0 false (l .facts .sense) 0 []
-foretells l Eject = heard 0 false (cond (openB l) (triple 0x02 0x3a 0x00) (l .facts .sense)) 0 []
+foretells l (Insert number prot disc) = heard 0 false (l .host .sense) 0 []
+foretells l Eject = heard 0 false (cond (openB l) noDisc (l .host .sense)) 0 []
 foretells l (Command p) =
-    let j = judgedOf (verdict (known (l .facts)) p) in
+    let j = judgedOf (verdict (l .media) (l .host) p) in
     heard 0 (j .passed) (j .sense) 0 []
-foretells l (Feed piece) = heard 0 false (l .facts .sense) (min (length piece) (l .left)) piece
+foretells l (Feed piece) =
+    let n = min (length piece) (l .left) in
+    heard 0 false (fed l (take n piece) .host .sense) n piece
 foretells l (Pull out) =
     let n = min (length out) (length (l .coming)) in
-    heard 0 false (l .facts .sense) n (take n (l .coming) ++ drop n out)
+    heard 0 false (l .host .sense) n (take n (l .coming) ++ drop n out)
 
--- and of any, by the house tests, with a block buffer and a disc that are lent
-unfoldable pub foretold : Ledger → List ℕ → List ℕ → Call → Heard
-foretold l buffer disc c =
-    let house = houseOf (world (known (l .facts)) buffer disc) c in
-    cond (eqb house 0) (foretells l c) (heard house false (l .facts .sense) 0 (lentFor c))
+-- and of any, by the house tests: of the world no more is asked than what is lent with the call
+unfoldable pub foretold : Ledger → World → Call → Heard
+foretold l w c =
+    let house = houseOf (inState w (known l)) c in
+    cond (eqb house 0) (foretells l c) (heard house false (l .host .sense) 0 (returned c))
 
 -- what the ledger says, whatever is called next
 pub record Accounted (d : Device) (r : Run) : Type 0 where
   -- what is heard is what it foretells: house number, passed or failed, triple, count and bytes
-  pub hears : (c : Call) → d .call (r .world) c .heard ≡ foretold (r .ledger) (r .world .buffer) (r .world .disc) c
+  pub hears : (c : Call) → d .call (r .world) c .heard ≡ foretold (r .ledger) (r .world) c
   -- while a disc is in, it holds the ledger's blocks
-  pub holds : (r .ledger .facts .number ≡ 0 → ⊥) → r .world .disc ≡ flatten (r .ledger .stored .blocks)
+  pub holds : (r .ledger .media .disc ≡ 0 → ⊥) → r .world .disc ≡ flatten (r .ledger .stored .blocks)
 
 -- ---- "until some command has answered 06 28 00"
 
 abbrev pub answersB : Call → Heard → Bool
 answersB (Insert number prot disc) h = false
 answersB Eject h = false
-answersB (Command p) h = eqb (h .house) 0 && not (h .passed) && sameB (h .sense) (triple 0x06 0x28 0x00)
+answersB (Command p) h = eqb (h .house) 0 && not (h .passed) && sameB (h .sense) changeTold
 answersB (Feed piece) h = false
 answersB (Pull out) h = false
 
@@ -84,7 +82,7 @@ pub record Faithful (d : Device) : Type 0 where
   -- "Each command passes or fails .., with the triple of the first check that fails."
   pub judged : (w : World) (p : List ℕ)
       → let h = d .call w (Command p) .heard in
-      h .house ≡ 0 → record { passed = h .passed; sense = h .sense } ≡ judgedOf (verdict (w .state) p)
+      h .house ≡ 0 → record { passed = h .passed; sense = h .sense } ≡ judgedOf (verdict (w .state .media) (w .state .host) p)
   -- "While only our calls touch the disc": in every run from power-on
   pub accounted : (buffer disc : List ℕ) (cs : List Call) → Accounted d (run d (poweredOn d buffer disc) cs)
   -- "After an accepted insertion, .. only INQUIRY and REQUEST SENSE pass until some command has answered 06 28 00.": in every world, after any
@@ -94,4 +92,4 @@ pub record Faithful (d : Device) : Type 0 where
       inserted .heard .house ≡ 0
       → someAnswersB d (inserted .world) cs ≡ false
       → d .call (after d (inserted .world) cs) (Command p) .heard .passed ≡ true
-      → (eqb (byteAt p 0) 0x03 || eqb (byteAt p 0) 0x12) ≡ true
+      → (eqb (codeOf p) 0x03 || eqb (codeOf p) 0x12) ≡ true

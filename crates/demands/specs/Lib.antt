@@ -3,5 +3,5 @@ pub mod Answered
 pub mod Ledger
 pub mod Faithful
 pub mod Uncut
-pub mod Demands
+pub mod Together
 pub mod Wrong

@@ -2,43 +2,39 @@
 -- between, gives the same counts in sum, bytes, disc, block buffer and state. A READ or WRITE of at least one block that passes and is
 -- carried through may be cut into consecutive commands of its own code, alike but for address and length, of one or more blocks, each
 -- carried through with no event between: all pass, with the same bytes, disc, block buffer and end state."
-use mathlib.Core.Path.{_≡_}
-use mathlib.Core.Bool.{Bool, true, false, _&&_, _||_}
-use mathlib.Core.List.{List, [], _∷_, _++_, flatten}
-use Prim.Native.Nat.{ℕ, _+_, _≤_}
-use lib.Dec.{eqb}
-use lib.ListN.{length, take}
+use Rattle.ground.specs.Kit.{_≡_, Bool, true, false, _&&_, _||_, List, [], _∷_, _++_, flatten, ℕ, _+_, _≤_, eqb, length, take}
+use Rattle.disc.specs.declared.{BlockAddress.BlockAddress}
+use Rattle.packet.specs.declared.{Field.Field, Rule.Rule}
 use Rattle.disc.specs.Formats.{runBytes}
-use Rattle.packet.specs.Fields.{byteAt, addressOf, lengthOf}
-use Rattle.packet.specs.Rules.{ruleOf}
-use Rattle.packet.specs.declared.Field.{Field}
+use Rattle.packet.specs.Fields.{addressOf, lengthOf}
+use Rattle.packet.specs.Rules.{codeOf, ruleOf}
 use Rattle.packet.specs.declared.Field.the-variants.{Nowhere, Byte4, Bytes7To8, Bytes6To9}
-use Rattle.packet.specs.declared.Rule.{Rule}
 use Rattle.packet.specs.declared.Known.the-variants.{Base}
-use Rattle.answer.specs.Bytes.{be2, be4}
+use Rattle.ground.specs.Bytes.{byteAt, be2, be4}
 use Rattle.house.specs.World.{World}
 use Rattle.house.specs.Theorems.{Ready}
-use Rattle.demands.specs.Device.{Call, Command, Feed, Pull, Device}
+use Rattle.drive.specs.Calls.{Call, Command, Feed, Pull}
+use Rattle.demands.specs.Device.{Device}
 use Rattle.demands.specs.Faithful.{Faithful}
 
 -- ---- "data lent whole or cut anywhere, with no other call between"
 
 -- the counts in sum, the pieces or buffers afterwards one after the other, and the world
-pub record Lent : Type 0 where
+pub record Moved : Type 0 where
   pub count : ℕ
   pub out : List ℕ
   pub world : World
 
-abbrev pub lent : ℕ → List ℕ → World → Lent
-lent count out w = record { count = count; out = out; world = w }
+abbrev pub moved : ℕ → List ℕ → World → Moved
+moved count out w = record { count = count; out = out; world = w }
 
 -- `way` is Feed or Pull
-abbrev pub lendAll : Device → (List ℕ → Call) → World → List (List ℕ) → Lent
-lendAll d way w [] = lent 0 [] w
+abbrev pub lendAll : Device → (List ℕ → Call) → World → List (List ℕ) → Moved
+lendAll d way w [] = moved 0 [] w
 lendAll d way w (x ∷ xs) =
     let a = d .call w (way x) in
     let rest = lendAll d way (a .world) xs in
-    lent (a .heard .count + rest .count) (a .heard .out ++ rest .out) (rest .world)
+    moved (a .heard .count + rest .count) (a .heard .out ++ rest .out) (rest .world)
 
 -- any number of pieces of any length
 abbrev pub CutAnywhere : Device → (List ℕ → Call) → Type 0
@@ -58,12 +54,12 @@ isIn code [] = false
 isIn code (c ∷ cs) = eqb code c || isIn code cs
 
 -- "alike but for address and length": bytes 2-5, and bytes 7-8 or bytes 6-9
-abbrev pub alike : Field → List ℕ → ℕ → ℕ → List ℕ
+abbrev pub alike : Field → List ℕ → BlockAddress → ℕ → List ℕ
 alike Nowhere p from n = p
 alike Byte4 p from n = p
 alike Bytes7To8 p from n =
-    byteAt p 0 ∷ byteAt p 1 ∷ be4 from ++ byteAt p 6 ∷ be2 n ++ byteAt p 9 ∷ byteAt p 10 ∷ byteAt p 11 ∷ []
-alike Bytes6To9 p from n = byteAt p 0 ∷ byteAt p 1 ∷ be4 from ++ be4 n ++ byteAt p 10 ∷ byteAt p 11 ∷ []
+    byteAt p 0 ∷ byteAt p 1 ∷ be4 (from .0) ++ byteAt p 6 ∷ be2 n ++ byteAt p 9 ∷ byteAt p 10 ∷ byteAt p 11 ∷ []
+alike Bytes6To9 p from n = byteAt p 0 ∷ byteAt p 1 ∷ be4 (from .0) ++ be4 n ++ byteAt p 10 ∷ byteAt p 11 ∷ []
 
 -- whether all passed, the bytes that moved, and the world
 pub record Carried : Type 0 where
@@ -86,12 +82,15 @@ pub record Part : Type 0 where
   pub blocks : ℕ
   pub pieces : List (List ℕ)
 
+abbrev pub blocksOn : BlockAddress → ℕ → BlockAddress
+blocksOn k n = record { 0 = k .0 + n }
+
 -- consecutive commands like p, from an address on
-abbrev pub carryAll : Device → (List ℕ → Call) → World → Field → List ℕ → ℕ → List Part → Carried
+abbrev pub carryAll : Device → (List ℕ → Call) → World → Field → List ℕ → BlockAddress → List Part → Carried
 carryAll d way w field p from [] = carried true [] w
 carryAll d way w field p from (x ∷ xs) =
     let one = carry d way w (alike field p from (x .blocks)) (x .pieces) in
-    let rest = carryAll d way (one .world) field p (from + x .blocks) xs in
+    let rest = carryAll d way (one .world) field p (blocksOn from (x .blocks)) xs in
     carried (one .passed && rest .passed) (one .bytes ++ rest .bytes) (rest .world)
 
 abbrev pub blocksIn : List Part → ℕ
@@ -118,26 +117,26 @@ dataIn number (x ∷ xs) = dataOf number (x .blocks) (x .pieces) ++ dataIn numbe
 -- a passing READ or WRITE of n blocks, n at least 1, that is carried through, and parts of n blocks in all
 pub record Cut (codes : List ℕ) (d : Device) (w : World) (p : List ℕ) (rule : Rule) (pieces : List (List ℕ)) (parts : List Part) : Type 0 where
   pub ready : Ready w
-  pub code : isIn (byteAt p 0) codes ≡ true
-  pub known : ruleOf (byteAt p 0) ≡ Base rule
+  pub code : isIn (codeOf p) codes ≡ true
+  pub known : ruleOf p ≡ Base rule
   pub passes : d .call w (Command p) .heard .passed ≡ true
   pub some : 1 ≤ lengthOf (rule .length) p
-  pub through : Through (w .state .disc) (lengthOf (rule .length) p) pieces
+  pub through : Through (w .state .media .disc) (lengthOf (rule .length) p) pieces
   pub sum : blocksIn parts ≡ lengthOf (rule .length) p
-  pub all : AllThrough (w .state .disc) parts
+  pub all : AllThrough (w .state .media .disc) parts
 
 -- "all pass, with the same bytes, disc, block buffer and end state"
 abbrev pub ReadsCut : Device → Type 0
 ReadsCut d =
     (w : World) (p : List ℕ) (rule : Rule) (pieces : List (List ℕ)) (parts : List Part) → Cut READ d w p rule pieces parts
-    → carryAll d Pull w (rule .length) p (addressOf p .0) parts ≡ carry d Pull w p pieces
+    → carryAll d Pull w (rule .length) p (addressOf p) parts ≡ carry d Pull w p pieces
 
 -- a WRITE is given the same bytes
 abbrev pub WritesCut : Device → Type 0
 WritesCut d =
     (w : World) (p : List ℕ) (rule : Rule) (pieces : List (List ℕ)) (parts : List Part) → Cut WRITE d w p rule pieces parts
-    → dataIn (w .state .disc) parts ≡ dataOf (w .state .disc) (lengthOf (rule .length) p) pieces
-    → carryAll d Feed w (rule .length) p (addressOf p .0) parts ≡ carry d Feed w p pieces
+    → dataIn (w .state .media .disc) parts ≡ dataOf (w .state .media .disc) (lengthOf (rule .length) p) pieces
+    → carryAll d Feed w (rule .length) p (addressOf p) parts ≡ carry d Feed w p pieces
 
 pub record Cuttings (d : Device) : Type 0 where
   -- "data lent whole or cut anywhere .. gives the same counts in sum, bytes, disc, block buffer and state"

@@ -1,22 +1,16 @@
 -- Devices that break a demand, each ours but for one thing; proofs/Wrong refutes them.
-use mathlib.Core.Path.{_≡_}
-use mathlib.Core.Bool.{Bool, true, false, cond, _&&_}
-use mathlib.Core.List.{List, [], _∷_, _++_}
-use Prim.Native.Nat.{ℕ, min}
-use lib.Dec.{eqb}
-use lib.ListN.{length, take, drop, replicate}
-use lib.Seq.{sets}
+use Rattle.ground.specs.Kit.{_≡_, Bool, true, false, cond, _&&_, List, [], _∷_, _++_, ℕ, min, eqb, length, take, drop, replicate, sets}
+use Rattle.state.specs.declared.{DiscAt.DiscAt, Transfer.Transfer}
+use Rattle.packet.specs.declared.{Rule.Rule}
 use Rattle.disc.specs.Formats.{blockBytes}
-use Rattle.state.specs.declared.Fault.the-variants.{UnknownCode}
-use Rattle.state.specs.declared.Failure.the-variants.{Found}
-use Rattle.state.specs.declared.DiscAt.{DiscAt}
-use Rattle.state.specs.declared.Transfer.{Transfer}
+use Rattle.state.specs.Senses.{noSense, unknownCode}
 use Rattle.state.specs.declared.Transfer.the-variants.{Closed, Answer as AnswerFrom, Read, Write}
-use Rattle.state.specs.States.{stateOf, powerOn, withTransfer, failedOf, passedOf}
-use Rattle.packet.specs.Fields.{byteAt, addressOf}
-use Rattle.packet.specs.declared.Rule.{Rule}
-use Rattle.house.specs.World.{World, world}
-use Rattle.demands.specs.Device.{Call, Insert, Eject, Command, Feed, Pull, Reply, reply, Device, callOf}
+use Rattle.state.specs.States.{hostOf, stateOf, powerOn, obeyedOf}
+use Rattle.packet.specs.Fields.{addressOf}
+use Rattle.packet.specs.Rules.{codeOf}
+use Rattle.house.specs.World.{World, inState, inDisc, Reply, reply}
+use Rattle.drive.specs.Calls.{Call, Insert, Eject, Command, Feed, Pull, callOf}
+use Rattle.demands.specs.Device.{Device}
 use Rattle.demands.specs.Faithful.{Faithful}
 use Rattle.demands.specs.Uncut.{CutAnywhere, Cuttings, READ, Part, Cut, carry, carryAll}
 
@@ -38,7 +32,7 @@ abbrev sameEvents : Events
 sameEvents w a = a
 
 abbrev same : Calls
-same w lent a = a
+same w bytes a = a
 
 abbrev inserting : Events → Device
 inserting f = record { start = powerOn; call = altered f same same same }
@@ -63,12 +57,12 @@ leaving a w = unlessRefused a (reply 0 (a .heard .passed) (a .heard .count) (a .
 
 abbrev pub failsEverything : Device
 failsEverything =
-    commanding (λ w p a. unlessRefused a (reply 0 false 0 [] (world (failedOf (w .state) (Found UnknownCode)) (w .buffer) (w .disc))))
+    commanding (λ w p a. unlessRefused a (reply 0 false 0 [] (inState w (obeyedOf (w .state) unknownCode (w .state .motor) Closed))))
 
 abbrev pub passesEverything : Device
 passesEverything =
     commanding (λ w p a.
-    cond (a .heard .passed) a (unlessRefused a (reply 0 true 0 [] (world (passedOf (w .state) (w .state .motor) Closed) (w .buffer) (w .disc)))))
+    cond (a .heard .passed) a (unlessRefused a (reply 0 true 0 [] (inState w (obeyedOf (w .state) noSense (w .state .motor) Closed)))))
 
 abbrev pub handsOutZeros : Device
 handsOutZeros =
@@ -78,7 +72,7 @@ handsOutZeros =
 
 -- it counts and goes on as ours, and stores nothing
 abbrev pub discardsFeeds : Device
-discardsFeeds = feeding (λ w piece a. leaving a (world (a .world .state) (w .buffer) (w .disc)))
+discardsFeeds = feeding (λ w piece a. leaving a (inState w (a .world .state)))
 
 -- ---- "One that serves only the first block or first pull of a transfer"
 
@@ -92,11 +86,11 @@ shortened n (Read p) = Read (firstOf n p)
 shortened n (Write p) = Write (firstOf n p)
 
 abbrev with : World → Transfer → World
-with w t = world (withTransfer (w .state) (w .state .sense) t) (w .buffer) (w .disc)
+with w t = inState w (stateOf (w .state .media) (w .state .motor) (w .state .host) t)
 
 abbrev pub firstBlockOnly : Device
 firstBlockOnly =
-    commanding (λ w p a. leaving a (with (a .world) (shortened (blockBytes (w .state .disc)) (a .world .state .transfer))))
+    commanding (λ w p a. leaving a (with (a .world) (shortened (blockBytes (w .state .media .disc)) (a .world .state .transfer))))
 
 -- what is pulled from once is closed
 abbrev pub pulledOnce : Transfer → Transfer
@@ -111,7 +105,7 @@ firstPullOnly = pulling (λ w out a. leaving a (with (a .world) (pulledOnce (a .
 -- ---- "A made-up count": the length of what was lent
 
 abbrev counted : Calls
-counted w lent a = unlessRefused a (reply 0 false (length lent) (a .heard .out) (a .world))
+counted w bytes a = unlessRefused a (reply 0 false (length bytes) (a .heard .out) (a .world))
 
 abbrev pub makesUpCounts : Device
 makesUpCounts = record { start = powerOn; call = altered sameEvents same counted counted }
@@ -121,23 +115,23 @@ makesUpCounts = record { start = powerOn; call = altered sameEvents same counted
 abbrev withFlags : Bool → Bool → World → World
 withFlags power change w =
     let s = w .state in
-    world (stateOf (s .disc) (s .protected) (s .motor) power change (s .sense) (s .transfer)) (w .buffer) (w .disc)
+    inState w (stateOf (s .media) (s .motor) (hostOf power change (s .host .sense)) (s .transfer))
 
 abbrev pub neverReady : Device
-neverReady = commanding (λ w p a. leaving a (withFlags (w .state .«power_on») (w .state .change) (a .world)))
+neverReady = commanding (λ w p a. leaving a (withFlags (w .state .host .power) (w .state .host .change) (a .world)))
 
 -- ---- the first three versions of the box
 
 abbrev withChange : Bool → World → World
-withChange change w = withFlags (w .state .«power_on») change w
+withChange change w = withFlags (w .state .host .power) change w
 
 -- version one swaps silently: the change flag stays as it was
 abbrev pub versionOne : Device
-versionOne = inserting (λ w a. leaving a (withChange (w .state .change) (a .world)))
+versionOne = inserting (λ w a. leaving a (withChange (w .state .host .change) (a .world)))
 
 -- version two: an INQUIRY that passes uses the announcement up
 abbrev pub versionTwo : Device
-versionTwo = commanding (λ w p a. cond (a .heard .passed && eqb (byteAt p 0) 0x12) (leaving a (withChange false (a .world))) a)
+versionTwo = commanding (λ w p a. cond (a .heard .passed && eqb (codeOf p) 0x12) (leaving a (withChange false (a .world))) a)
 
 -- version three stores byte by byte
 abbrev pub storedAt : Transfer → List ℕ → List ℕ → ℕ → List ℕ
@@ -148,7 +142,7 @@ storedAt (Write p) disc piece n = sets disc (p .at .0) (take n piece)
 
 abbrev pub versionThree : Device
 versionThree =
-    feeding (λ w piece a. leaving a (world (a .world .state) (w .buffer) (storedAt (w .state .transfer) (w .disc) piece (a .heard .count))))
+    feeding (λ w piece a. leaving a (inDisc (inState w (a .world .state)) (storedAt (w .state .transfer) (w .disc) piece (a .heard .count))))
 
 -- ---- each breaks demand 2, and demand 3 with it
 
@@ -183,4 +177,4 @@ pub record Obeyed : Type 0 where
   -- a READ cut into READs, each carried through by one pull
   pub first-pull-reads : (w : World) (p : List ℕ) (rule : Rule) (out : List ℕ) (parts : List Part)
       → Cut READ firstPullOnly w p rule (out ∷ []) parts → OnePullEach parts
-      → carryAll firstPullOnly Pull w (rule .length) p (addressOf p .0) parts ≡ carry firstPullOnly Pull w p (out ∷ [])
+      → carryAll firstPullOnly Pull w (rule .length) p (addressOf p) parts ≡ carry firstPullOnly Pull w p (out ∷ [])

@@ -1,2 +1,1 @@
-pub mod Truth
-pub mod Table
+pub mod Discs

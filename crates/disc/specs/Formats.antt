@@ -1,10 +1,6 @@
 -- Paper 01, "Discs".
-use mathlib.Core.List.{List, [], _∷_}
-use Prim.Native.Nat.{ℕ, _*_}
-use lib.ListN.{getD}
-use Rattle.disc.specs.declared.Format.{Format}
-use Rattle.disc.specs.declared.BlockAddress.{BlockAddress}
-use Rattle.disc.specs.declared.BytePlace.{BytePlace}
+use Rattle.ground.specs.Kit.{List, [], _∷_, ℕ, _*_, getD}
+use Rattle.disc.specs.declared.{Format.Format, BlockAddress.BlockAddress, BytePlace.BytePlace}
 
 -- a row: blocks, block bytes, sectors a track, cylinders, rate, rpm, medium type
 abbrev row : ℕ → ℕ → ℕ → ℕ → ℕ → ℕ → ℕ → Format

@@ -1,7 +1,5 @@
 -- Paper 01, "Masks of allowed bits".
-use mathlib.Core.List.{List, [], _∷_, _++_}
-use Prim.Native.Nat.{ℕ, suc, _-_}
-use lib.ListN.{getD, take, drop, set, replicate}
+use Rattle.ground.specs.Kit.{List, [], _∷_, _++_, ℕ, suc, _-_, getD, take, drop, set, replicate}
 
 -- "Byte 1 is E0 unless given; bytes not given are 00", "Byte 0 has no mask"
 abbrev none : List ℕ

@@ -1,7 +1,5 @@
--- What the table of discs has to satisfy; proved in proofs/Table.
-use mathlib.Core.Path.{_≡_}
-use mathlib.Core.List.{[], _∷_, map}
-use Prim.Native.Nat.{ℕ, _*_, _≤_, _<_}
+-- What the table of discs has to satisfy; proved in proofs/Discs.
+use Rattle.ground.specs.Kit.{_≡_, [], _∷_, map, ℕ, _*_, _≤_, _<_}
 use Rattle.disc.specs.Formats.{formatOf, heads, bufferBytes, blockBytes, discBytes}
 
 -- the column "disc bytes", and 0 for no disc

@@ -1,7 +1,5 @@
-// The constant tables: the discs by number and, beside them, the masks of the base commands by row; the two kinds of number; and the
-// smaller of two counts, which all that moves bytes asks for.
-ghost use mathlib.Core.Path.{_≡_};
-ghost use Prim.Native.Nat.{min};
+// The constant tables: the discs by number and, beside them, the masks of the base commands by row; and the two kinds of number.
+ghost use Rattle.ground.specs.Kit.{_≡_};
 ghost use Rattle.disc.specs.Formats.{formatOf, blockBytes, discBytes, runBytes, placeOf};
 ghost use Rattle.disc.specs.Masks.{maskRow};
 
@@ -141,11 +139,4 @@ pub fn mask_row(row: usize) -> [u8; 12]
     ensures { λ r. ⌜ r ≡ maskRow row ⌝ }
 {
     if row < 16 { MASKS[row] } else { [0; 12] }
-}
-
-// The smaller of two counts of bytes.
-pub fn least(a: usize, b: usize) -> usize
-    ensures { λ r. ⌜ r ≡ min a b ⌝ }
-{
-    if a < b { a } else { b }
 }

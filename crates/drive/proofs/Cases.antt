@@ -1,37 +1,31 @@
 -- The marked cases at the edges, by computation but for the bytes that are fed. Assumes nothing.
-use mathlib.Core.Path.{_≡_, _∙_}
-use mathlib.Core.Bool.{true}
-use mathlib.Core.List.{List, map}
-use Prim.Native.Nat.{ℕ}
-use native.Mathlib.Omega.{arith}
-use lib.ListN.{length, take}
-use lib.Seq.{sets, length-sets, take-all}
+use Rattle.ground.specs.Kit.{_≡_, _∙_, true, false, List, [], map, ℕ, arith, length, take, sets, length-sets, take-all}
+use Rattle.state.specs.declared.{State.State}
 use Rattle.disc.specs.Formats.{bufferBytes, formatOf, blockBytes, runBytes, discBytes, placeOf}
 use Rattle.disc.specs.Masks.{masks, maskRow}
-use Rattle.state.specs.declared.State.{State}
 use Rattle.state.specs.declared.Transfer.the-variants.{Write}
 use Rattle.state.specs.Senses.{noSense, namedB}
-use Rattle.state.specs.States.{withTransfer, failedOf, passedOf, movedOf}
-use Rattle.sound.specs.Sound.{onDiscB, endsOnBlockB, openSoundB, soundB}
+use Rattle.state.specs.States.{obeyedOf, movedOf}
+use Rattle.sound.specs.Soundness.{onDiscB, endsOnBlockB, openSoundB, soundB}
 use Rattle.packet.specs.Fields.{addressOf, lengthOf}
 use Rattle.packet.specs.Rules.{rules, ruleOf}
-use Rattle.checks.specs.Checks.{inMaskB, checksOf, verdict}
+use Rattle.checks.specs.Verdicts.{inMaskB, checksOf, verdict}
 use Rattle.answer.specs.Answers.{senseData, inquiryData}
 use Rattle.answer.specs.Giving.{answerOf, allocationOf, giveOf}
-use Rattle.house.specs.World.{world}
-use Rattle.house.specs.House.{lentTests, commandTests}
-use Rattle.commands.specs.Commands.{Commanded, spanOf, performedOf, commandOf}
-use Rattle.feeds.specs.Feeds.{takenOf, feedOf}
+use Rattle.house.specs.World.{world, Reply, reply}
+use Rattle.house.specs.Refusals.{moveTests, commandTests}
+use Rattle.commands.specs.Obeying.{spanOf, performedOf, commandOf}
+use Rattle.feeds.specs.Feeding.{feedOf}
 use Rattle.feeds.proofs.Feeding.{share-part}
-use Rattle.drive.specs.Cases.{plain, lengthAt7, bytes2And4, cases, outcome, expected, Starred}
+use Rattle.drive.specs.Cases.{plain, but, lengthAt7, bytes2And4, cases, outcome, expected, Starred}
 
 module _ (disc : List ℕ) (d : length disc ≡ 1474560) where
   -- the write of block 0, so far on
   abbrev at : ℕ → ℕ → State
-  at place left = withTransfer plain noSense (Write (record { at = record { 0 = place }; left = left }))
+  at place left = but plain noSense (Write (record { at = record { 0 = place }; left = left }))
 
-  abbrev passes : State → List ℕ → Commanded
-  passes s buffer = record { house = 0; passed = true; world = world s buffer disc }
+  abbrev passes : State → List ℕ → Reply
+  passes s buffer = reply 0 true 0 [] (world s buffer disc)
 
   -- the table, and the two commands of the last case
   record Answered (buffer : List ℕ) : Type 0 where
@@ -40,13 +34,13 @@ module _ (disc : List ℕ) (d : length disc ≡ 1474560) where
     closes : commandOf (world (at 511 1) buffer disc) (bytes2And4 0x00 0 0) ≡ passes plain buffer
 
   answered : (buffer : List ℕ) → length buffer ≡ bufferBytes → Answered buffer
-  unfolding formatOf blockBytes runBytes discBytes placeOf masks maskRow namedB failedOf passedOf onDiscB endsOnBlockB openSoundB soundB addressOf lengthOf rules ruleOf inMaskB checksOf verdict senseData inquiryData answerOf allocationOf giveOf lentTests commandTests spanOf performedOf commandOf
+  unfolding formatOf blockBytes runBytes discBytes placeOf masks maskRow namedB obeyedOf onDiscB endsOnBlockB openSoundB soundB addressOf lengthOf rules ruleOf inMaskB checksOf verdict senseData inquiryData answerOf allocationOf giveOf moveTests commandTests spanOf performedOf commandOf
   answered buffer b = record { table = rw (b, d); opens = rw (b, d); closes = rw (b, d) }
 
   -- 511 bytes complete no block
   takes : (buffer piece : List ℕ) → length buffer ≡ bufferBytes → length piece ≡ 511
-      → feedOf (world (at 0 512) buffer disc) piece ≡ record { house = 0; count = 511; world = world (at 511 1) (sets buffer 0 piece) disc }
-  unfolding formatOf blockBytes runBytes discBytes namedB movedOf onDiscB endsOnBlockB openSoundB soundB lentTests takenOf feedOf
+      → feedOf (world (at 0 512) buffer disc) piece ≡ reply 0 false 511 piece (world (at 511 1) (sets buffer 0 piece) disc)
+  unfolding formatOf blockBytes runBytes discBytes namedB movedOf onDiscB endsOnBlockB openSoundB soundB moveTests feedOf
   takes buffer piece b p =
       let all : take 511 piece ≡ piece = take-all 511 piece (omega arith) in
       rw (b, d, p, all, share-part 512 0 buffer disc piece (omega arith))

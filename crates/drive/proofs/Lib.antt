@@ -1,8 +1,7 @@
-pub mod Cases
-pub mod Keeps
-pub mod Single
-pub mod Kept
-pub mod Pending
-pub mod Refusing
-pub mod Moving
+pub mod Calling
+pub mod Commanded
+pub mod Staying
+pub mod OneReply
 pub mod Whole
+pub mod Pending
+pub mod Cases

@@ -1,23 +1,13 @@
 -- At any cut a block on the disc is all old or all new. Assumes nothing.
-use mathlib.Core.Path.{_≡_, refl, sym, _∙_}
-use mathlib.Core.Bool.{Bool, true, false, cond, _&&_}
-use mathlib.Core.List.{List, [], _∷_, _++_}
-use Prim.Native.Nat.{ℕ, suc, _+_, _-_, _*_, _/_, _%_, _≤_, _<_, min}
-use native.Mathlib.Nat.{mod-lt, div-add-mod', mul-mod-left, mul-le-mul-right, lt-of-mul-lt-mul-right, eq-of-mul-eq-mul-right, add-mul, one-mul}
-use native.Mathlib.Omega.{arith}
-use borrow.Author.Tests.{eq-eqb, ne-eqb, eqb-true, eqb-false, lt-ltb, le-leb, ltb-true, ltb-false, le-ltb, lt-leb}
-use lib.Arith.{digits-mod}
-use lib.Dec.{eqb, leb, ltb}
-use lib.ListN.{length, take, drop, set, length-set}
-use lib.Seq.{paste, length-take-le, length-paste, take-at, take-suc-set, append-snoc, drop-append-add}
+use Rattle.ground.specs.Kit.{_≡_, refl, sym, _∙_, Bool, true, false, cond, _&&_, List, [], _∷_, _++_, ℕ, suc, _+_, _-_, _*_, _/_, _%_, _≤_, _<_, min, mod-lt, div-add-mod', mul-mod-left, mul-le-mul-right, lt-of-mul-lt-mul-right, eq-of-mul-eq-mul-right, add-mul, one-mul, arith, eq-eqb, ne-eqb, eqb-true, eqb-false, lt-ltb, le-leb, ltb-true, ltb-false, le-ltb, lt-leb, digits-mod, eqb, leb, ltb, length, take, drop, set, length-set, paste, length-take-le, length-paste, take-at, take-suc-set, append-snoc, drop-append-add}
 use Rattle.disc.specs.Formats.{blockBytes, runBytes, placeOf}
-use Rattle.disc.proofs.Truth.{both}
-use Rattle.disc.proofs.Table.{block-fits, block-holds}
-use Rattle.moves.proofs.Parts.{paste-same, paste-before, paste-after}
-use Rattle.moves.proofs.Entering.{may-write}
-use Rattle.feeds.specs.Feeds.{writing, feedByte, feedBytes, takenOf}
-use Rattle.feeds.proofs.Feeding.{feed-inside, feed-last}
-use Rattle.feeds.proofs.Entering.{feeds}
+use Rattle.ground.proofs.Truth.{both}
+use Rattle.disc.proofs.Discs.{block-fits, block-holds}
+use Rattle.ground.proofs.Parts.{paste-same, paste-before, paste-after}
+use Rattle.moves.proofs.Spans.{may-write}
+use Rattle.feeds.specs.Feeding.{writing, feedByte, feedBytes}
+use Rattle.feeds.proofs.Feeding.{at-byte, feed-inside, feed-last}
+use Rattle.feeds.proofs.ByTransfer.{feeds-write}
 use Rattle.drive.specs.Theorems.{Room, completesB, gatheredOf, OnlyAtTheLastByte, AllOldOrAllNew, FedAllOldOrAllNew}
 
 -- ---- blocks of b bytes
@@ -69,13 +59,13 @@ module _ (b : ℕ) (pos : 0 < b) where
   -- ---- one byte
 
   module _ (q j x k : ℕ) (buffer disc : List ℕ) (h : j < b) (held : b ≤ length buffer) (room : q * b + j < length disc) where
-    at-last : blockAt b (feedByte b (writing (q * b + j) buffer disc) x .disc) k
-        ≡ cond (eqb (q * b + j + 1) (endAt b k)) (take b (feedByte b (writing (q * b + j) buffer disc) x .buffer)) (blockAt b disc k)
+    at-last : blockAt b (feedByte b (writing (at-byte (q * b + j)) buffer disc) x .disc) k
+        ≡ cond (eqb (q * b + j + 1) (endAt b k)) (take b (feedByte b (writing (at-byte (q * b + j)) buffer disc) x .buffer)) (blockAt b disc k)
     at-last = here (eqb (j + 1) b) refl
       where
         here : (t : Bool) → eqb (j + 1) b ≡ t
-            → blockAt b (feedByte b (writing (q * b + j) buffer disc) x .disc) k
-            ≡ cond (eqb (q * b + j + 1) (endAt b k)) (take b (feedByte b (writing (q * b + j) buffer disc) x .buffer)) (blockAt b disc k)
+            → blockAt b (feedByte b (writing (at-byte (q * b + j)) buffer disc) x .disc) k
+            ≡ cond (eqb (q * b + j + 1) (endAt b k)) (take b (feedByte b (writing (at-byte (q * b + j)) buffer disc) x .buffer)) (blockAt b disc k)
         here false e =
             let inside : j + 1 < b = let d = eqb-false (j + 1) b e in omega arith in
             rw (feed-inside b q j x buffer disc inside, ne-eqb (q * b + j + 1) (endAt b k) (no-end q j k inside))
@@ -132,7 +122,7 @@ module _ (b : ℕ) (pos : 0 < b) where
   abbrev Whole : ℕ → List ℕ → Type 0
   Whole k xs =
       (q j : ℕ) (buffer disc : List ℕ) → j < b → b ≤ length buffer → q * b + j + length xs ≤ length disc
-      → blockAt b (feedBytes b (writing (q * b + j) buffer disc) xs .disc) k ≡ newOf k q j (length xs) (take j buffer ++ xs) disc
+      → blockAt b (feedBytes b (writing (at-byte (q * b + j)) buffer disc) xs .disc) k ≡ newOf k q j (length xs) (take j buffer ++ xs) disc
 
   module _ (k x : ℕ) (xs : List ℕ) (more : Whole k xs) (q j : ℕ) (buffer disc : List ℕ) (held : b ≤ length buffer)
       (room : q * b + j + suc (length xs) ≤ length disc) where
@@ -142,7 +132,7 @@ module _ (b : ℕ) (pos : 0 < b) where
 
     abbrev Next : Type 0
     Next =
-        blockAt b (feedBytes b (feedByte b (writing (q * b + j) buffer disc) x) xs .disc) k
+        blockAt b (feedBytes b (feedByte b (writing (at-byte (q * b + j)) buffer disc) x) xs .disc) k
         ≡ newOf k q j (suc (length xs)) (take j buffer ++ x ∷ xs) disc
 
     whole-inside : j + 1 < b → Next
@@ -225,28 +215,29 @@ pub only-at-the-last-byte : OnlyAtTheLastByte
 unfolding placeOf runBytes
 only-at-the-last-byte number w x k r =
     let b = blockBytes number in
-    let pos = block-holds number (r .lent .low) (r .lent .high) in
+    let at = w .at .0 in
+    let pos = block-holds number (r .whole .low) (r .whole .high) in
     let fits = block-fits number in
-    let d = div-add-mod' (w .at) b in
-    rw d at (at-last b pos (w .at / b) (w .at % b) x (k .0) (w .buffer) (w .disc) (mod-lt (w .at) pos) (omega (arith, r)) (rw d (omega (arith, r))))
+    let d = div-add-mod' at b in
+    rw d at (at-last b pos (at / b) (at % b) x (k .0) (w .buffer) (w .disc) (mod-lt at pos) (omega (arith, r)) (rw d (omega (arith, r))))
 
 pub all-old-or-all-new : AllOldOrAllNew
 unfolding placeOf runBytes completesB gatheredOf reachesB
 all-old-or-all-new number w xs k r =
     let b = blockBytes number in
-    let pos = block-holds number (r .lent .low) (r .lent .high) in
+    let at = w .at .0 in
+    let pos = block-holds number (r .whole .low) (r .whole .high) in
     let fits = block-fits number in
-    let d = div-add-mod' (w .at) b in
-    let start : w .at / b * b ≡ w .at - w .at % b = omega arith in
-    rw (d, start) at (whole b pos (k .0) xs (w .at / b) (w .at % b) (w .buffer) (w .disc) (mod-lt (w .at) pos) (omega (arith, r)) (rw d (r .within)))
+    let d = div-add-mod' at b in
+    let start : at / b * b ≡ at - at % b = omega arith in
+    rw (d, start) at (whole b pos (k .0) xs (at / b) (at % b) (w .buffer) (w .disc) (mod-lt at pos) (omega (arith, r)) (rw d (r .within)))
 
 pub fed-all-old-or-all-new : FedAllOldOrAllNew
-unfolding takenOf
 fed-all-old-or-all-new w piece p k ready e =
     let s = may-write w ready p e .span in
+    let number = w .state .media .disc in
     let n = min (length piece) (p .left) in
+    let from = writing (p .at) (w .buffer) (w .disc) in
     let l : length (take n piece) ≡ n = length-take-le n piece (omega arith) in
-    let room : Room (w .state .disc) (writing (p .at .0) (w .buffer) (w .disc)) (length (take n piece)) =
-    record { lent = s .lent; buffer = ready .buffer; within = rw l (omega (arith, s .within)) } in
-    rw (feeds w ready piece, e)
-    (rw l at (all-old-or-all-new (w .state .disc) (writing (p .at .0) (w .buffer) (w .disc)) (take n piece) k room))
+    let room : Room number from (length (take n piece)) = record { whole = s .whole; buffer = ready .buffer; within = rw l (omega (arith, s .within)) } in
+    rw (← feeds-write w piece ready p e) (rw l at (all-old-or-all-new number from (take n piece) k room))

@@ -1,33 +1,27 @@
 -- Paper 01, "Cases at the edges": those marked, in one statement; proved in proofs/Cases.
-use mathlib.Core.Path.{_≡_}
-use mathlib.Core.Bool.{Bool, true, false}
-use mathlib.Core.List.{List, [], _∷_, _++_, map}
-use Prim.Native.Nat.{ℕ, _*_}
-use lib.ListN.{length, replicate}
+use Rattle.ground.specs.Kit.{_≡_, Bool, true, false, List, [], _∷_, _++_, map, ℕ, _*_, length, replicate}
+use Rattle.state.specs.declared.{Sense.Sense, State.State, Transfer.Transfer}
 use Rattle.disc.specs.Formats.{bufferBytes}
-use Rattle.state.specs.declared.Sense.{Sense}
-use Rattle.state.specs.declared.State.{State}
-use Rattle.state.specs.declared.Transfer.{Transfer}
 use Rattle.state.specs.declared.Transfer.the-variants.{Closed, Answer, Read}
 use Rattle.state.specs.Senses.{triple, noSense}
-use Rattle.state.specs.States.{stateOf, withTransfer}
-use Rattle.answer.specs.Bytes.{be2, be4}
+use Rattle.state.specs.States.{mediaOf, hostOf, stateOf}
+use Rattle.ground.specs.Bytes.{be2, be4}
 use Rattle.house.specs.World.{world}
-use Rattle.commands.specs.Commands.{commandOf}
-use Rattle.feeds.specs.Feeds.{feedOf}
+use Rattle.commands.specs.Obeying.{commandOf}
+use Rattle.feeds.specs.Feeding.{feedOf}
 
 -- "Disc 3, no flags, unless said"
 abbrev pub plain : State
-plain = stateOf 3 false false false false noSense Closed
+plain = stateOf (mediaOf 3 false) false (hostOf false false noSense) Closed
 
 abbrev protectedDisc : State
-protectedDisc = stateOf 3 true false false false noSense Closed
+protectedDisc = stateOf (mediaOf 3 true) false (hostOf false false noSense) Closed
 
 abbrev pending : State
-pending = stateOf 3 false false false true noSense Closed
+pending = stateOf (mediaOf 3 false) false (hostOf false true noSense) Closed
 
 abbrev afterFailure : State
-afterFailure = stateOf 3 false false false false (triple 0x05 0x21 0x00) Closed
+afterFailure = stateOf (mediaOf 3 false) false (hostOf false false (triple 0x05 0x21 0x00)) Closed
 
 -- packets: code, address, and length at bytes 7-8 or at bytes 6-9; code, byte 2 and byte 4
 abbrev pub lengthAt7 : ℕ → ℕ → ℕ → List ℕ
@@ -47,15 +41,18 @@ pub record Case : Type 0 where
   pub after : State
 
 -- the state after is the one before but for sense and transfer, so flags are kept
+abbrev pub but : State → Sense → Transfer → State
+but s sense transfer = stateOf (s .media) (s .motor) (hostOf (s .host .power) (s .host .change) sense) transfer
+
 infix 20 _gets_passes_
 abbrev _gets_passes_ : State → List ℕ → Transfer → Case
 before gets packet passes transfer =
-    record { before = before; packet = packet; passed = true; after = withTransfer before noSense transfer }
+    record { before = before; packet = packet; passed = true; after = but before noSense transfer }
 
 infix 20 _gets_fails_
 abbrev _gets_fails_ : State → List ℕ → Sense → Case
 before gets packet fails sense =
-    record { before = before; packet = packet; passed = false; after = withTransfer before sense Closed }
+    record { before = before; packet = packet; passed = false; after = but before sense Closed }
 
 abbrev lastBlock : Transfer
 lastBlock = Read (record { at = record { 0 = 2879 * 512 }; left = 512 })
@@ -87,7 +84,7 @@ pub record Outcome : Type 0 where
 abbrev pub outcome : List ℕ → List ℕ → Case → Outcome
 outcome buffer disc c =
     let r = commandOf (world (c .before) buffer disc) (c .packet) in
-    record { house = r .house; passed = r .passed; state = r .world .state }
+    record { house = r .heard .house; passed = r .heard .passed; state = r .world .state }
 
 -- no house test refuses
 abbrev pub expected : Case → Outcome
@@ -105,7 +102,7 @@ brokenOff buffer disc piece =
     let wrote = commandOf (world plain buffer disc) (lengthAt7 0x2a 0 1) in
     let fed = feedOf (wrote .world) piece in
     let tested = commandOf (fed .world) (bytes2And4 0x00 0 0) in
-    record { written = wrote .passed; count = fed .count; passed = tested .passed; disc = tested .world .disc }
+    record { written = wrote .heard .passed; count = fed .heard .count; passed = tested .heard .passed; disc = tested .world .disc }
 
 -- over any block buffer, any disc 3 and any 511 bytes
 abbrev pub Starred : Type 0

@@ -1,3 +1,3 @@
 pub mod Feeding
 pub mod Sharing
-pub mod Entering
+pub mod ByTransfer

@@ -1,15 +1,10 @@
 -- One share of a feed: what the copy into the buffer leaves, and that the share is a run of bytes. Assumes nothing.
-use mathlib.Core.Path.{_≡_, ap}
-use mathlib.Core.List.{List, _++_}
-use Prim.Native.Nat.{ℕ, _≤_, _+_, _-_, _%_, min}
-use native.Mathlib.Omega.{arith}
-use lib.ListN.{length, take, drop, length-drop}
-use lib.Seq.{paste, sets, length-take-le}
-use Rattle.answer.specs.Filling.{Filled, filled, fillOf}
+use Rattle.ground.specs.Kit.{_≡_, ap, List, _++_, ℕ, _≤_, _+_, _-_, _%_, min, arith, length, take, drop, length-drop, paste, sets, length-take-le}
+use Rattle.ground.specs.Filling.{Filled, filled, fillOf}
 use Rattle.moves.proofs.Blocks.{Share}
-use Rattle.moves.proofs.Parts.{put-back}
-use Rattle.feeds.specs.Feeds.{writing, feedBytes, taken}
-use Rattle.feeds.proofs.Feeding.{share-part, share-full}
+use Rattle.ground.proofs.Parts.{put-back}
+use Rattle.feeds.specs.Feeding.{writing, feedBytes}
+use Rattle.feeds.proofs.Feeding.{at-byte, share-part, share-full}
 
 -- the buffer `after` has the first `count` bytes of the piece in the rest of the block
 pub record Copied (b at : ℕ) (piece buffer after : List ℕ) (count : ℕ) : Type 0 where
@@ -39,8 +34,7 @@ module _ (b at m : ℕ) (s : Share b at m) (piece buffer : List ℕ) (held : b �
     -- the share is the piece's first bytes, one by one
     abbrev Done : List ℕ → Type 0
     Done disc′ =
-        let n = min (length piece) (b - at % b) in
-        taken count (writing (at + count) after disc′) ≡ taken n (feedBytes b (writing at buffer disc) (take n piece))
+        writing (at-byte (at + count)) after disc′ ≡ feedBytes b (writing (at-byte at) buffer disc) (take (min (length piece) (b - at % b)) piece)
 
     pub part-done : (at % b + count ≡ b → ⊥) → Done disc
     part-done h =

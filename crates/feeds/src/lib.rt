@@ -1,45 +1,64 @@
 // Feed: how the bytes of a piece come to the disc, with the house refusals.
-mod feeds;
+mod blocks;
 
-ghost use mathlib.Core.Path.{_≡_};
+ghost use Rattle.ground.specs.Kit.{_≡_, length};
+ghost use Rattle.disc.specs.Formats.{bufferBytes};
 ghost use Rattle.house.specs.World.{world};
-ghost use Rattle.moves.specs.Places.{Ahead};
-ghost use Rattle.moves.specs.Moves.{moved, discAfter};
-ghost use Rattle.feeds.specs.Feeds.{feedOf};
+ghost use Rattle.moves.specs.Places.{WriteSpan};
+ghost use Rattle.moves.specs.Replies.{moved};
+ghost use Rattle.feeds.specs.Feeding.{writeFed, feedOf};
 use disc::BytePlace;
 use house::House;
 use moves::MoveReply;
-use moves::onward;
-use moves::unmoved;
 use state::DiscAt;
 use state::State;
 use state::Transfer;
 
-// A read or a write, `count` bytes further on.
-fn disc_after(from: DiscAt, count: usize) -> DiscAt
-    requires { ⌜ Ahead (from .at .0) (from .left) count ⌝ }
-    ensures { λ r. ⌜ r ≡ discAfter from count ⌝ }
+// An open write takes the first min(piece, left) bytes.
+fn feed_write(
+    state: State,
+    from: DiscAt,
+    piece: &[u8],
+    buffer: &mut [u8],
+    disc: &mut [u8],
+) -> MoveReply
+    requires { ⌜ WriteSpan (state .media .disc) from (now disc) ⌝ }
+    requires { ⌜ length (now buffer) ≡ bufferBytes ⌝ }
+    ensures { λ r. ⌜ moved r (now (piece .entry)) (now (buffer .exit)) (now (disc .exit))
+        ≡ writeFed from (world state (now (buffer .entry)) (now (disc .entry))) (now (piece .entry)) ⌝ }
 {
-    DiscAt {
+    let count = blocks::feed_blocks(piece, from, state.media.disc, buffer, disc);
+    let rest = DiscAt {
         at: BytePlace(from.at.0 + count),
         left: from.left - count,
+    };
+    let next = state::moved(state, Transfer::Write(rest));
+    MoveReply {
+        house: House::Accepted,
+        count: count,
+        state: next,
     }
 }
 
 pub fn feed(state: State, piece: &[u8], buffer: &mut [u8], disc: &mut [u8]) -> MoveReply
-    ensures { λ r. ⌜ moved r (now (buffer .exit)) (now (disc .exit))
+    ensures { λ r. ⌜ moved r (now (piece .entry)) (now (buffer .exit)) (now (disc .exit))
         ≡ feedOf (world state (now (buffer .entry)) (now (disc .entry))) (now (piece .entry)) ⌝ }
 {
-    let house = house::lent_house(state, buffer.len(), disc.len());
+    let house = house::move_house(state, buffer.len(), disc.len());
     if house::number_of(house) != 0 {
-        return unmoved(house, state);
+        return MoveReply {
+            house: house,
+            count: 0,
+            state: state,
+        };
     }
     let transfer = state.transfer;
     match transfer {
-        Transfer::Write(from) => {
-            let count = feeds::feed_blocks(piece, from, state.disc, buffer, disc);
-            onward(state, count, Transfer::Write(disc_after(from, count)))
-        }
-        _ => unmoved(House::Accepted, state),
+        Transfer::Write(from) => feed_write(state, from, piece, buffer, disc),
+        _ => MoveReply {
+            house: House::Accepted,
+            count: 0,
+            state: state,
+        },
     }
 }

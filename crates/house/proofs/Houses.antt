@@ -1,22 +1,14 @@
 -- A number is one refusal's; what the house tests say of a call that they let pass, and which call they let pass. Assumes nothing.
-use mathlib.Core.Path.{_≡_, refl, sym, _∙_, ap}
-use mathlib.Core.Bool.{Bool, true}
-use mathlib.Core.List.{List, [], _∷_}
-use Prim.Native.Nat.{ℕ}
-use native.Mathlib.Omega.{arith}
-use borrow.Author.Tests.{eq-eqb, ne-eqb, eqb-true, eqb-false, le-ltb, ltb-false, not-false}
-use lib.Dec.{eqb, ltb}
-use lib.ListN.{length, getD}
+use Rattle.ground.specs.Kit.{_≡_, refl, sym, _∙_, ap, Bool, true, false, cond, List, [], _∷_, ℕ, arith, eq-eqb, ne-eqb, eqb-true, eqb-false, le-ltb, ltb-false, not-false, eqb, ltb, length, getD}
+use Rattle.state.specs.declared.{State.State}
+use Rattle.house.specs.declared.{House.House}
 use Rattle.disc.specs.Formats.{bufferBytes, discBytes}
-use Rattle.disc.proofs.Truth.{neither}
-use Rattle.state.specs.declared.State.{State}
-use Rattle.sound.specs.Sound.{soundB}
-use Rattle.packet.proofs.First.{NoneFails, none-failed, barredB}
-use Rattle.house.specs.declared.House.{House}
+use Rattle.ground.proofs.Truth.{neither}
+use Rattle.sound.specs.Soundness.{soundB}
+use Rattle.ground.proofs.First.{NoneFails, none-failed, barredB}
 use Rattle.house.specs.declared.House.the-variants.{Accepted, PacketLength, Unsound, BufferLength, DiscLength, DiscIn, NoDiscIn, NoSuchDisc}
-use Rattle.house.specs.declared.Test.{Test}
-use Rattle.house.specs.World.{World}
-use Rattle.house.specs.House.{numberOf, failsB, refusing, firstRefusal, insertTests, ejectTests, lentTests, commandTests, moveHouse, commandHouse}
+use Rattle.house.specs.World.{World, Reply, refusal, unlessRefused}
+use Rattle.house.specs.Refusals.{Test, numberOf, failsB, refusing, firstRefusal, insertTests, ejectTests, moveTests, commandTests, moveHouse, commandHouse}
 use Rattle.house.specs.Theorems.{OneHouse, Ready, Insertable, InsertAdmits, EjectAdmits, Admits, CommandAdmits}
 
 -- the houses by number
@@ -45,16 +37,16 @@ pub let-pass : (tests : List Test) → barredB failsB refusing noneB tests ≡ t
 let-pass tests barred none = none-failed failsB refusing noneB tests 0 barred none .0
 
 module _ (w : World) where
-  abbrev lent : List Test
-  lent = lentTests (w .state) (length (w .buffer)) (length (w .disc))
+  abbrev tests : List Test
+  tests = moveTests (w .state) (length (w .buffer)) (length (w .disc))
 
   -- tests 2, 3 and 4 are passed exactly if the world is ready
   pub ready-in : Ready w → moveHouse w ≡ 0
-  unfolding lentTests
-  ready-in r = rw (r .sound, r .buffer, r .disc, eq-eqb (discBytes (w .state .disc)) (discBytes (w .state .disc)) refl)
+  unfolding moveTests
+  ready-in r = rw (r .sound, r .buffer, r .disc, eq-eqb (discBytes (w .state .media .disc)) (discBytes (w .state .media .disc)) refl)
 
-  none-ready : NoneFails failsB refusing noneB lent → Ready w
-  unfolding lentTests
+  none-ready : NoneFails failsB refusing noneB tests → Ready w
+  unfolding moveTests
   none-ready test2 =
       let test3 = test2 .1 in
       let test4 = test3 .1 in
@@ -62,12 +54,12 @@ module _ (w : World) where
         sound = not-false (soundB (w .state)) (test2 .0);
         buffer = eqb-true (length (w .buffer)) bufferBytes (not-false (eqb (length (w .buffer)) bufferBytes) (test3 .0));
         disc =
-            eqb-true (length (w .disc)) (discBytes (w .state .disc)) (not-false (eqb (length (w .disc)) (discBytes (w .state .disc))) (test4 .0));
+            eqb-true (length (w .disc)) (discBytes (w .state .media .disc)) (not-false (eqb (length (w .disc)) (discBytes (w .state .media .disc))) (test4 .0));
       }
 
   pub in-ready : moveHouse w ≡ 0 → Ready w
-  unfolding lentTests
-  in-ready none = none-ready (let-pass lent refl (eq-eqb (moveHouse w) 0 none))
+  unfolding moveTests
+  in-ready none = none-ready (let-pass tests refl (eq-eqb (moveHouse w) 0 none))
 
   module _ (p : List ℕ) where
     -- and a command's test 1 exactly if its packet has 12 bytes
@@ -76,7 +68,7 @@ module _ (w : World) where
     command-in long r = rw long (ready-in r)
 
     in-command : commandHouse w p ≡ 0 → (length p ≡ 12) × Ready w
-    unfolding commandTests lentTests
+    unfolding commandTests moveTests
     in-command none =
         let test1 =
         let-pass (commandTests (w .state) (length p) (length (w .buffer)) (length (w .disc))) refl (eq-eqb (commandHouse w p) 0 none) in
@@ -98,7 +90,7 @@ module _ (s : State) (number : ℕ) (disc : List ℕ) where
       let some = eqb-false number 0 zero in
       record {
         sound = not-false (soundB s) (test2 .0);
-        none = eqb-true (s .disc) 0 (not-false (eqb (s .disc) 0) (test5 .0));
+        none = eqb-true (s .media .disc) 0 (not-false (eqb (s .media .disc) 0) (test5 .0));
         low = omega arith;
         high = ltb-false 4 number above;
         whole = eqb-true (length disc) (discBytes number) (not-false (eqb (length disc) (discBytes number)) (test4 .0));
@@ -125,8 +117,8 @@ unfolding ejectTests
 eject-admits s = (
   λ none.
       let test2 = let-pass (ejectTests s) refl (eq-eqb (firstRefusal (ejectTests s)) 0 none) in
-      record { sound = not-false (soundB s) (test2 .0); is-in = eqb-false (s .disc) 0 (test2 .1 .0) },
-  λ e. rw (e .sound, ne-eqb (s .disc) 0 (e .is-in)),
+      record { sound = not-false (soundB s) (test2 .0); is-in = eqb-false (s .media .disc) 0 (test2 .1 .0) },
+  λ e. rw (e .sound, ne-eqb (s .media .disc) 0 (e .is-in)),
 )
 
 pub admits : Admits
@@ -134,3 +126,13 @@ admits w = (in-ready w, ready-in w)
 
 pub command-admits : CommandAdmits
 command-admits w p = (in-command w p, command-in w p)
+
+-- ---- what holds of a refusal and of an accepted call's reply holds of the reply
+
+pub by-house : (P : Reply → Type 0) (house : ℕ) (w : World) (out : List ℕ) (accepted : Reply)
+    → ((house ≡ 0 → ⊥) → P (refusal house w out)) → (house ≡ 0 → P accepted) → P (unlessRefused house w out accepted)
+by-house P house w out accepted refused accepts = here (eqb house 0) refl
+  where
+    here : (b : Bool) → eqb house 0 ≡ b → P (cond b accepted (refusal house w out))
+    here true q = accepts (eqb-true house 0 q)
+    here false q = refused (eqb-false house 0 q)

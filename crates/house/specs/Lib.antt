@@ -1,3 +1,3 @@
 pub mod World
-pub mod House
+pub mod Refusals
 pub mod Theorems

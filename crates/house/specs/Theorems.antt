@@ -1,15 +1,11 @@
 -- What the house tests let pass, and that a number is one refusal's; proved in proofs/Houses.
-use mathlib.Core.Path.{_≡_}
-use mathlib.Core.Bool.{true}
-use mathlib.Core.List.{List}
-use Prim.Native.Nat.{ℕ, _≤_}
-use lib.ListN.{length}
+use Rattle.ground.specs.Kit.{_≡_, true, List, ℕ, _≤_, length}
+use Rattle.state.specs.declared.{State.State}
+use Rattle.house.specs.declared.{House.House}
 use Rattle.disc.specs.Formats.{bufferBytes, discBytes}
-use Rattle.state.specs.declared.State.{State}
-use Rattle.sound.specs.Sound.{soundB}
-use Rattle.house.specs.declared.House.{House}
+use Rattle.sound.specs.Soundness.{soundB}
 use Rattle.house.specs.World.{World}
-use Rattle.house.specs.House.{numberOf, firstRefusal, insertTests, ejectTests, moveHouse, commandHouse}
+use Rattle.house.specs.Refusals.{numberOf, firstRefusal, insertTests, ejectTests, moveHouse, commandHouse}
 
 -- two answers that the promise of a house test allows have one number, so they are equal
 abbrev pub OneHouse : Type 0
@@ -21,12 +17,12 @@ OneHouse = (h g : House) → numberOf h ≡ numberOf g → h ≡ g
 pub record Ready (w : World) : Type 0 where
   pub sound : soundB (w .state) ≡ true
   pub buffer : length (w .buffer) ≡ bufferBytes
-  pub disc : length (w .disc) ≡ discBytes (w .state .disc)
+  pub disc : length (w .disc) ≡ discBytes (w .state .media .disc)
 
 -- an insertion is admitted exactly with no disc in, a number from 1 to 4 and a disc of its length
 pub record Insertable (s : State) (number : ℕ) (disc : List ℕ) : Type 0 where
   pub sound : soundB s ≡ true
-  pub none : s .disc ≡ 0
+  pub none : s .media .disc ≡ 0
   pub low : 1 ≤ number
   pub high : number ≤ 4
   pub whole : length disc ≡ discBytes number
@@ -40,7 +36,7 @@ InsertAdmits =
 -- an ejection exactly with a disc in
 pub record Ejectable (s : State) : Type 0 where
   pub sound : soundB s ≡ true
-  pub is-in : s .disc ≡ 0 → ⊥
+  pub is-in : s .media .disc ≡ 0 → ⊥
 
 abbrev pub EjectAdmits : Type 0
 EjectAdmits =

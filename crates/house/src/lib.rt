@@ -1,6 +1,6 @@
 // The house refusals: the tests of what is lent, in the paper's order.
-ghost use mathlib.Core.Path.{_≡_};
-ghost use Rattle.house.specs.House.{numberOf, firstRefusal, lentTests, commandTests, insertTests, ejectTests};
+ghost use Rattle.ground.specs.Kit.{_≡_};
+ghost use Rattle.house.specs.Refusals.{numberOf, firstRefusal, moveTests, commandTests, insertTests, ejectTests};
 use state::State;
 
 pub enum House {
@@ -13,11 +13,6 @@ pub enum House {
     NoDiscIn,
     NoSuchDisc,
 }
-
-// Whether a house test fails, and the refusal that it then gives.
-pub struct Test(pub bool, pub House);
-
-const PASSED: Test = Test(false, House::Accepted);
 
 // The house number, 0 where the call is accepted.
 pub fn number_of(house: House) -> u8
@@ -35,53 +30,50 @@ pub fn number_of(house: House) -> u8
     }
 }
 
-fn first_refusal(tests: [Test; 4]) -> House
-    ensures { λ r. ⌜ numberOf r ≡ firstRefusal tests ⌝ }
-{
-    let mut i = 0;
-    while i < 4 {
-        let test = tests[i];
-        let house = test.1;
-        if test.0 {
-            return house;
-        }
-        i += 1;
-    }
-    House::Accepted
-}
-
 pub fn insert_house(state: State, number: u8, disc: usize) -> House
     ensures { λ r. ⌜ numberOf r ≡ firstRefusal (insertTests state number disc) ⌝ }
 {
-    first_refusal([
-        Test(!sound::sound(state), House::Unsound),
-        Test(state.disc != 0, House::DiscIn),
-        Test((number == 0) | (4 < number), House::NoSuchDisc),
-        Test(disc != disc::disc_bytes(number), House::DiscLength),
-    ])
+    if !sound::sound(state) {
+        return House::Unsound;
+    }
+    if state.media.disc != 0 {
+        return House::DiscIn;
+    }
+    if (number == 0) | (4 < number) {
+        return House::NoSuchDisc;
+    }
+    if disc != disc::disc_bytes(number) {
+        return House::DiscLength;
+    }
+    House::Accepted
 }
 
 pub fn eject_house(state: State) -> House
     ensures { λ r. ⌜ numberOf r ≡ firstRefusal (ejectTests state) ⌝ }
 {
-    first_refusal([
-        Test(!sound::sound(state), House::Unsound),
-        Test(state.disc == 0, House::NoDiscIn),
-        PASSED,
-        PASSED,
-    ])
+    if !sound::sound(state) {
+        return House::Unsound;
+    }
+    if state.media.disc == 0 {
+        return House::NoDiscIn;
+    }
+    House::Accepted
 }
 
-// Tests 2, 3 and 4, of a state and of the lengths that are lent.
-pub fn lent_house(state: State, buffer: usize, disc: usize) -> House
-    ensures { λ r. ⌜ numberOf r ≡ firstRefusal (lentTests state buffer disc) ⌝ }
+// Of a state and of the lengths that are lent.
+pub fn move_house(state: State, buffer: usize, disc: usize) -> House
+    ensures { λ r. ⌜ numberOf r ≡ firstRefusal (moveTests state buffer disc) ⌝ }
 {
-    first_refusal([
-        Test(!sound::sound(state), House::Unsound),
-        Test(buffer != disc::BUFFER_BYTES, House::BufferLength),
-        Test(disc != disc::disc_bytes(state.disc), House::DiscLength),
-        PASSED,
-    ])
+    if !sound::sound(state) {
+        return House::Unsound;
+    }
+    if buffer != disc::BUFFER_BYTES {
+        return House::BufferLength;
+    }
+    if disc != disc::disc_bytes(state.media.disc) {
+        return House::DiscLength;
+    }
+    House::Accepted
 }
 
 pub fn command_house(state: State, packet: usize, buffer: usize, disc: usize) -> House
@@ -90,5 +82,5 @@ pub fn command_house(state: State, packet: usize, buffer: usize, disc: usize) ->
     if packet != 12 {
         return House::PacketLength;
     }
-    lent_house(state, buffer, disc)
+    move_house(state, buffer, disc)
 }

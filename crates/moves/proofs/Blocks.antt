@@ -1,12 +1,8 @@
 -- Places within blocks of b bytes. Assumes nothing.
-use mathlib.Core.Path.{_≡_}
-use mathlib.Core.List.{List}
-use Prim.Native.Nat.{ℕ, _<_, _≤_, _+_, _-_, _/_, _%_, min}
-use native.Mathlib.Nat.{mod-lt, mod-le, div-add-mod', div-lt-iff-lt-mul, mul-le-mul, mul-mod-left, le-refl, add-mul, one-mul}
-use native.Mathlib.Omega.{arith}
-use lib.ListN.{length}
+use Rattle.ground.specs.Kit.{_≡_, List, ℕ, _<_, _≤_, _+_, _-_, _/_, _%_, min, mod-lt, mod-le, div-add-mod', div-lt-iff-lt-mul, mul-le-mul, mul-mod-left, le-refl, add-mul, one-mul, arith, length}
+use Rattle.disc.specs.declared.{BytePlace.BytePlace}
 use Rattle.disc.specs.Formats.{bufferBytes, formatOf, blockBytes, runBytes, discBytes}
-use Rattle.disc.proofs.Table.{block-fits, block-holds}
+use Rattle.disc.proofs.Discs.{block-fits, block-holds}
 use Rattle.moves.specs.Places.{Place}
 
 -- the block of a place below a block's end ends there at the latest
@@ -34,10 +30,11 @@ disc-blocks : (number : ℕ) → discBytes number % blockBytes number ≡ 0
 unfolding discBytes runBytes
 disc-blocks number = mul-mod-left (formatOf number .blocks) (blockBytes number)
 
-pub share : (number at : ℕ) (disc : List ℕ) (b : ℕ) → b ≡ blockBytes number → Place number at disc → Share b at (length disc)
-share number at disc b e p =
-    let pos = block-holds number (p .lent .low) (p .lent .high) in
-    let fits = block-end (blockBytes number) at (length disc) pos (rw (p .lent .whole) (disc-blocks number)) (p .within) in
+pub share : (number : ℕ) (place : BytePlace) (disc : List ℕ) (b : ℕ) → b ≡ blockBytes number → Place number place disc → Share b (place .0) (length disc)
+share number place disc b e p =
+    let at = place .0 in
+    let pos = block-holds number (p .whole .low) (p .whole .high) in
+    let fits = block-end (blockBytes number) at (length disc) pos (rw (p .whole .long) (disc-blocks number)) (p .within) in
     rw e (record { pos = pos; small = block-fits number; inside = mod-lt at pos; start = mod-le at (blockBytes number); fits = fits })
 
 -- a turn of a loop over the blocks of what is left: its share is not empty, and ends within what is wanted

@@ -1,4 +1,2 @@
 pub mod Blocks
-pub mod Parts
-pub mod Entering
-pub mod Single
+pub mod Spans

@@ -1,3 +1,2 @@
 pub mod Places
-pub mod Moves
-pub mod Theorems
+pub mod Replies

@@ -1,3 +1,1 @@
-pub mod First
-pub mod Find
-pub mod Table
+pub mod BaseCommands

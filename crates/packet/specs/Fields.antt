@@ -1,19 +1,9 @@
 -- Paper 01: "Addresses (bytes 2-5) and lengths (bytes 7-8; A8 and AA bytes 6-9; 03 and 12 byte 4) are big-endian."
-use mathlib.Core.List.{List}
-use Prim.Native.Nat.{ℕ, _+_, _*_}
-use lib.ListN.{getD}
-use Rattle.disc.specs.declared.BlockAddress.{BlockAddress}
-use Rattle.packet.specs.declared.Field.{Field}
+use Rattle.ground.specs.Kit.{List, ℕ}
+use Rattle.disc.specs.declared.{BlockAddress.BlockAddress}
+use Rattle.packet.specs.declared.{Field.Field}
+use Rattle.ground.specs.Bytes.{byteAt, word, long}
 use Rattle.packet.specs.declared.Field.the-variants.{Nowhere, Byte4, Bytes7To8, Bytes6To9}
-
-abbrev pub byteAt : List ℕ → ℕ → ℕ
-byteAt p i = getD p i 0
-
-abbrev pub word : ℕ → ℕ → ℕ
-word a b = a * 256 + b
-
-abbrev pub long : ℕ → ℕ → ℕ → ℕ → ℕ
-long a b c d = word (word (word a b) c) d
 
 unfoldable pub addressOf : List ℕ → BlockAddress
 addressOf p = record { 0 = long (byteAt p 2) (byteAt p 3) (byteAt p 4) (byteAt p 5) }

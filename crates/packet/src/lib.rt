@@ -1,8 +1,11 @@
 // What a packet says: its fields, and the base command that it is.
-ghost use mathlib.Core.Path.{_≡_};
-ghost use Rattle.packet.specs.Fields.{byteAt, word, long, addressOf, lengthOf};
-ghost use Rattle.packet.specs.Rules.{baseOf, ruleOf};
+ghost use Rattle.ground.specs.Kit.{_≡_};
+ghost use Rattle.packet.specs.Fields.{addressOf, lengthOf};
+ghost use Rattle.packet.specs.Rules.{askingOf, baseOf, ruleOf};
 use disc::BlockAddress;
+use ground::byte;
+use ground::long_of;
+use ground::word_of;
 
 pub const TEST_UNIT_READY: u8 = 0x00;
 
@@ -36,48 +39,27 @@ pub const READ_12: u8 = 0xa8;
 
 pub const WRITE_12: u8 = 0xaa;
 
-// Which of the checks C, D, G and H are asked.
+// Which of the checks B, C, D, G and H are asked.
 pub struct Asked {
+    pub unit: bool,
     pub attention: bool,
     pub disc: bool,
     pub range: bool,
     pub unprotected: bool,
 }
 
-const ASKS_NOTHING: Asked = Asked {
-    attention: false,
-    disc: false,
-    range: false,
-    unprotected: false,
-};
+// A check that is asked, by its letter, and one that isn't.
+const B: bool = true;
 
-const ASKS_C: Asked = Asked {
-    attention: true,
-    disc: false,
-    range: false,
-    unprotected: false,
-};
+const C: bool = true;
 
-const ASKS_CD: Asked = Asked {
-    attention: true,
-    disc: true,
-    range: false,
-    unprotected: false,
-};
+const D: bool = true;
 
-const ASKS_CDG: Asked = Asked {
-    attention: true,
-    disc: true,
-    range: true,
-    unprotected: false,
-};
+const G: bool = true;
 
-const ASKS_CDGH: Asked = Asked {
-    attention: true,
-    disc: true,
-    range: true,
-    unprotected: true,
-};
+const H: bool = true;
+
+const NO: bool = false;
 
 // What the checks F and F2 look at: nothing, bits of byte 4 that have to be zero, or page and page control.
 pub enum Values {
@@ -145,25 +127,6 @@ pub enum Known {
     Base(Rule),
 }
 
-// The byte at `i`, 0 past the end.
-pub fn byte(packet: &[u8], i: usize) -> u8
-    ensures { λ r. ⌜ r ≡ byteAt (now (packet .entry)) i ⌝ }
-{
-    if i < packet.len() { packet[i] } else { 0 }
-}
-
-fn word_of(a: u8, b: u8) -> u32
-    ensures { λ r. ⌜ r ≡ word a b ⌝ }
-{
-    (a as u32) * 256 + (b as u32)
-}
-
-fn long_of(a: u8, b: u8, c: u8, d: u8) -> u32
-    ensures { λ r. ⌜ r ≡ long a b c d ⌝ }
-{
-    (((a as u32) * 256 + (b as u32)) * 256 + (c as u32)) * 256 + (d as u32)
-}
-
 pub fn address(packet: &[u8]) -> BlockAddress
     ensures { λ r. ⌜ r ≡ addressOf (now (packet .entry)) ⌝ }
 {
@@ -191,6 +154,18 @@ pub fn length(field: Field, packet: &[u8]) -> u32
     }
 }
 
+fn asking(unit: bool, attention: bool, disc: bool, range: bool, unprotected: bool) -> Asked
+    ensures { λ r. ⌜ r ≡ askingOf unit attention disc range unprotected ⌝ }
+{
+    Asked {
+        unit: unit,
+        attention: attention,
+        disc: disc,
+        range: range,
+        unprotected: unprotected,
+    }
+}
+
 fn base(row: usize, asked: Asked, values: Values, length: Field, routine: Routine) -> Known
     ensures { λ r. ⌜ r ≡ baseOf row asked values length routine ⌝ }
 {
@@ -204,26 +179,63 @@ fn base(row: usize, asked: Asked, values: Values, length: Field, routine: Routin
 }
 
 // Check A, and each base command's row, check set and routine.
-pub fn rule_of(code: u8) -> Known
-    ensures { λ r. ⌜ r ≡ ruleOf code ⌝ }
+pub fn rule_of(packet: &[u8]) -> Known
+    ensures { λ r. ⌜ r ≡ ruleOf (now (packet .entry)) ⌝ }
 {
+    let code = byte(packet, 0);
     match code {
-        TEST_UNIT_READY => base(0, ASKS_CD, ANY, Field::Nowhere, NOTHING),
-        REZERO_UNIT => base(1, ASKS_CD, ANY, Field::Nowhere, NOTHING),
-        REQUEST_SENSE => base(2, ASKS_NOTHING, ANY, Field::Byte4, GIVE_SENSE),
-        INQUIRY => base(3, ASKS_NOTHING, ANY, Field::Byte4, GIVE_INQUIRY),
-        START_STOP_UNIT => base(4, ASKS_C, Values::ZeroBits(0x02), Field::Nowhere, MOTOR),
-        PREVENT_REMOVAL => base(5, ASKS_C, Values::ZeroBits(0x01), Field::Nowhere, NOTHING),
-        READ_FORMAT_CAPACITIES => base(6, ASKS_C, ANY, Field::Bytes7To8, GIVE_FORMAT_CAPACITIES),
-        READ_CAPACITY => base(7, ASKS_CD, ANY, Field::Nowhere, GIVE_CAPACITY),
-        READ_10 => base(8, ASKS_CDG, ANY, Field::Bytes7To8, READ),
-        WRITE_10 => base(9, ASKS_CDGH, ANY, Field::Bytes7To8, WRITE),
-        SEEK => base(10, ASKS_CDG, ANY, Field::Nowhere, NOTHING),
-        WRITE_AND_VERIFY => base(11, ASKS_CDGH, ANY, Field::Bytes7To8, WRITE),
-        VERIFY => base(12, ASKS_CDG, ANY, Field::Bytes7To8, NOTHING),
-        MODE_SENSE => base(13, ASKS_CD, Values::Page, Field::Bytes7To8, GIVE_MODE),
-        READ_12 => base(14, ASKS_CDG, ANY, Field::Bytes6To9, READ),
-        WRITE_12 => base(15, ASKS_CDGH, ANY, Field::Bytes6To9, WRITE),
+        TEST_UNIT_READY => base(0, asking(B, C, D, NO, NO), ANY, Field::Nowhere, NOTHING),
+        REZERO_UNIT => base(1, asking(B, C, D, NO, NO), ANY, Field::Nowhere, NOTHING),
+        REQUEST_SENSE => base(2, asking(B, NO, NO, NO, NO), ANY, Field::Byte4, GIVE_SENSE),
+        INQUIRY => base(
+            3,
+            asking(B, NO, NO, NO, NO),
+            ANY,
+            Field::Byte4,
+            GIVE_INQUIRY,
+        ),
+        START_STOP_UNIT => base(
+            4,
+            asking(B, C, NO, NO, NO),
+            Values::ZeroBits(0x02),
+            Field::Nowhere,
+            MOTOR,
+        ),
+        PREVENT_REMOVAL => base(
+            5,
+            asking(B, C, NO, NO, NO),
+            Values::ZeroBits(0x01),
+            Field::Nowhere,
+            NOTHING,
+        ),
+        READ_FORMAT_CAPACITIES => base(
+            6,
+            asking(B, C, NO, NO, NO),
+            ANY,
+            Field::Bytes7To8,
+            GIVE_FORMAT_CAPACITIES,
+        ),
+        READ_CAPACITY => base(
+            7,
+            asking(B, C, D, NO, NO),
+            ANY,
+            Field::Nowhere,
+            GIVE_CAPACITY,
+        ),
+        READ_10 => base(8, asking(B, C, D, G, NO), ANY, Field::Bytes7To8, READ),
+        WRITE_10 => base(9, asking(B, C, D, G, H), ANY, Field::Bytes7To8, WRITE),
+        SEEK => base(10, asking(B, C, D, G, NO), ANY, Field::Nowhere, NOTHING),
+        WRITE_AND_VERIFY => base(11, asking(B, C, D, G, H), ANY, Field::Bytes7To8, WRITE),
+        VERIFY => base(12, asking(B, C, D, G, NO), ANY, Field::Bytes7To8, NOTHING),
+        MODE_SENSE => base(
+            13,
+            asking(B, C, D, NO, NO),
+            Values::Page,
+            Field::Bytes7To8,
+            GIVE_MODE,
+        ),
+        READ_12 => base(14, asking(B, C, D, G, NO), ANY, Field::Bytes6To9, READ),
+        WRITE_12 => base(15, asking(B, C, D, G, H), ANY, Field::Bytes6To9, WRITE),
         _ => Known::Unknown,
     }
 }

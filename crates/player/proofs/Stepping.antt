@@ -1,8 +1,5 @@
 -- A step that waits, and one that plays. Assumes nothing.
-use mathlib.Core.Path.{_≡_, ap}
-use mathlib.Core.Bool.{Bool, true, false}
-use mathlib.Core.List.{List}
-use Prim.Native.Nat.{ℕ}
+use Rattle.ground.specs.Kit.{_≡_, ap, Bool, true, false, List, ℕ}
 use Rattle.house.specs.World.{World}
 use Rattle.text.specs.Ink.{Ink, ink, putAll}
 use Rattle.record.specs.Records.{lengthField, recordOf}

@@ -1,28 +1,22 @@
 -- What holds of every step. Assumes nothing.
-use mathlib.Core.Path.{_≡_, refl, sym, ap, _∙_}
-use mathlib.Core.Bool.{Bool, true, false, cond, not, _&&_, _||_, true≢false, false≢true}
-use mathlib.Core.List.{List, _++_}
-use Prim.Native.Nat.{ℕ, _+_, _<_, _≤_}
-use native.Mathlib.Omega.{arith}
-use lib.Dec.{eqb}
-use lib.ListN.{length, take, drop, length-drop}
-use lib.Seq.{drop-append-le, take-append-le}
+use Rattle.ground.specs.Kit.{_≡_, refl, sym, ap, _∙_, Bool, true, false, cond, not, _&&_, or-false, true≢false, false≢true, List, _++_, ℕ, _+_, _<_, _≤_, arith, eqb, length, take, drop, length-drop, drop-append-le, take-append-le}
+use Rattle.record.specs.declared.{Record.Record}
+use Rattle.player.specs.declared.{Progress.Progress}
 use Rattle.house.specs.World.{World}
+use Rattle.drive.specs.Calls as call
 use Rattle.text.specs.Ink.{ink}
 use Rattle.text.proofs.Putting.{fits-whole, stays-in-line}
 use Rattle.record.specs.Records.{recordOf}
 use Rattle.record.specs.Waiting.{enoughB}
 use Rattle.record.specs.Holding.{There, Holds}
-use Rattle.record.specs.declared.Record.{Record}
 use Rattle.record.specs.declared.Record.the-variants.{Insert, Eject, Command, Feed, Pull, Bad}
 use Rattle.record.proofs.Waiting.{enough-tells, few-come}
 use Rattle.record.proofs.Holding.{all-hold}
-use Rattle.disc.proofs.Truth.{neither}
-use Rattle.player.specs.Playing.{commandSaid, feedSaid, saidOf}
+use Rattle.ground.proofs.Truth.{neither}
+use Rattle.player.specs.Playing.{calledOf, saidOf}
 use Rattle.player.specs.Lines.{lineOf}
 use Rattle.player.specs.Steps.{Stepped, readyB, waiting, playedOf, stepOf}
 use Rattle.player.specs.Theorems.{UsesWhatIsThere, EndsInLine, WholeLine, WaitsForFew, WhateverFollows, OneStep}
-use Rattle.player.specs.declared.Progress.{Progress}
 use Rattle.player.proofs.Lengths.{fits-line}
 
 module _ (w : World) (number : ℕ) (script : List ℕ) (ended : Bool) (line : List ℕ) where
@@ -77,31 +71,26 @@ waits-for-few w number script ended line =
 -- the n bytes behind the header
 behind : (script more : List ℕ) (n : ℕ) → 4 + n ≤ length script → take n (drop 4 (script ++ more)) ≡ take n (drop 4 script)
 behind script more n h =
-    ap (λ (xs : List ℕ). take n xs) (drop-append-le 4 script more (omega (arith, h)))
-    ∙ take-append-le n (drop 4 script) more (rw (length-drop 4 script) (omega (arith, h)))
+    rw (drop-append-le 4 script more (omega arith), take-append-le n (drop 4 script) more (rw (length-drop 4 script) (omega arith)))
 
 -- a record that was told is played alike, whatever comes behind it
 pub alike : (w : World) (script more : List ℕ) (r : Record) → Holds r script → saidOf w (script ++ more) r ≡ saidOf w script r
 alike w script more (Insert number prot) h = refl
 alike w script more Eject h = refl
-alike w script more Command h = ap (commandSaid w) (behind script more 12 (omega (arith, h .0 .1, h .1)))
-alike w script more (Feed n) h = ap (feedSaid w) (behind script more n (omega (arith, h .0 .1, h .1)))
+alike w script more Command h = ap (λ (p : List ℕ). calledOf w (call.Command p)) (behind script more 12 (omega (arith, h .0 .1, h .1)))
+alike w script more (Feed n) h = ap (λ (p : List ℕ). calledOf w (call.Feed p)) (behind script more n (omega (arith, h .0 .1, h .1)))
 alike w script more (Pull n) h = refl
 alike w script more Bad h = refl
-
-pub or-false : (a : Bool) → (a || false) ≡ true → a ≡ true
-or-false true e = refl
-or-false false e = e
 
 pub whatever-follows : WhateverFollows
 unfolding stepOf playedOf
 whatever-follows w number script more ended line =
     by-ready w number script false line (λ s. s .waits ≡ false → stepOf w number (script ++ more) ended line ≡ s)
-    (λ e _. let told = enough-tells script (or-false (enoughB script) e) in
+    (λ e _. let told = enough-tells script (sym (or-false (enoughB script)) ∙ e) in
     rw (told .still more, told .same more, told .long more, alike w script more (recordOf script) (all-hold script)))
     (λ _ e. absurd (true≢false e))
 
--- a step's answer, without what was lent
+-- a step's answer alone
 abbrev answer : Stepped → Progress
 answer s = record { waits = s .waits; bad = s .bad; used = s .used; length = s .line .at; state = s .world .state }
 

@@ -1,11 +1,7 @@
 -- Paper 01, "The bench player": the line of a record.
-use mathlib.Core.Bool.{cond}
-use mathlib.Core.List.{List, [], _∷_, _++_}
-use Prim.Native.Nat.{ℕ}
-use lib.Dec.{ltb}
-use lib.ListN.{length}
-use Rattle.state.specs.declared.Sense.{Sense}
-use Rattle.answer.specs.Bytes.{text}
+use Rattle.ground.specs.Kit.{cond, List, [], _∷_, _++_, ℕ, ltb, length}
+use Rattle.state.specs.declared.{Sense.Sense}
+use Rattle.ground.specs.Bytes.{text}
 use Rattle.text.specs.Numbers.{hexOf, hexesOf, decimalOf}
 use Rattle.player.specs.Playing.{Said}
 
@@ -20,7 +16,7 @@ abbrev pub numberText : ℕ → List ℕ
 numberText n = decimalOf n ++ space
 
 -- a byte and a space: "triple and bytes are lower-case hex"
-abbrev pub digitsText : ℕ → List ℕ
+unfoldable pub digitsText : ℕ → List ℕ
 digitsText b = hexOf b ++ space
 
 unfoldable pub senseText : Sense → List ℕ
@@ -33,7 +29,7 @@ shownText bytes = cond (ltb 0 (length bytes)) (space ++ hexesOf bytes) []
 -- "record number from 1, house number (0 for none), the state's triple afterwards, count .. the other numbers decimal"
 unfoldable pub playedLine : ℕ → Said → List ℕ
 playedLine number s =
-    numberText number ++ numberText (s .house) ++ senseText (s .world .state .sense) ++ decimalOf (s .count) ++ shownText (s .shown) ++ newline
+    numberText number ++ numberText (s .house) ++ senseText (s .world .state .host .sense) ++ decimalOf (s .count) ++ shownText (s .shown) ++ newline
 
 -- "a line with its number and `bad` is printed, as `6 bad`"
 unfoldable pub badLine : ℕ → List ℕ

@@ -1,16 +1,12 @@
 -- The bench player, a record at a time.
-use mathlib.Core.Bool.{Bool, true, false, cond, not, _&&_, _||_}
-use mathlib.Core.List.{List}
-use Prim.Native.Nat.{ℕ}
-use lib.Dec.{eqb}
-use lib.ListN.{length}
+use Rattle.ground.specs.Kit.{Bool, true, false, cond, not, _&&_, _||_, List, ℕ, eqb, length}
+use Rattle.player.specs.declared.{Progress.Progress}
 use Rattle.house.specs.World.{World, world}
 use Rattle.text.specs.Ink.{Ink, ink, putAll}
 use Rattle.record.specs.Records.{lengthField, recordOf}
 use Rattle.record.specs.Waiting.{enoughB}
 use Rattle.player.specs.Playing.{Said, saidOf}
 use Rattle.player.specs.Lines.{lineOf}
-use Rattle.player.specs.declared.Progress.{Progress}
 
 -- whether it waits, whether the record was bad, how many bytes it says it has, the line with its length, and the bench's world after
 pub record Stepped : Type 0 where

@@ -1,16 +1,12 @@
 -- What holds of every step. Each is proved in `proofs/` under the name in small letters, `UsesWhatIsThere` as `uses-what-is-there`.
-use mathlib.Core.Path.{_≡_}
-use mathlib.Core.Bool.{Bool, true, false}
-use mathlib.Core.List.{List, _++_}
-use Prim.Native.Nat.{ℕ, _<_, _≤_}
-use lib.ListN.{length, drop}
+use Rattle.ground.specs.Kit.{_≡_, Bool, true, false, List, _++_, ℕ, _<_, _≤_, length, drop}
+use Rattle.player.specs.declared.{Progress.Progress}
 use Rattle.house.specs.World.{World}
 use Rattle.text.specs.Ink.{ink}
 use Rattle.record.specs.Records.{recordOf}
 use Rattle.player.specs.Playing.{saidOf}
 use Rattle.player.specs.Lines.{lineOf}
 use Rattle.player.specs.Steps.{Stepped, stepped, stepOf}
-use Rattle.player.specs.declared.Progress.{Progress}
 
 -- a record that was played is there whole
 abbrev pub UsesWhatIsThere : Type 0

@@ -2,9 +2,10 @@
 mod lines;
 mod playing;
 
-ghost use mathlib.Core.Path.{_≡_};
+ghost use Rattle.ground.specs.Kit.{_≡_};
 ghost use Rattle.house.specs.World.{world};
 ghost use Rattle.player.specs.Steps.{stepped, stepOf};
+use drive::House;
 use state::State;
 
 pub struct Progress {
@@ -22,7 +23,7 @@ pub struct Progress {
 // What a record came to; the first `shown` bytes of the buffer for pulls are to be printed.
 pub(crate) struct Outcome {
     pub(crate) bad: bool,
-    pub(crate) house: u8,
+    pub(crate) house: House,
     pub(crate) count: usize,
     pub(crate) shown: usize,
     pub(crate) state: State,

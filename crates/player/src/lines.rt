@@ -1,13 +1,10 @@
 // The text of a line.
 use crate::Outcome;
 use state::Sense;
-ghost use mathlib.Core.Path.{_≡_};
-ghost use mathlib.Core.List.{List};
-ghost use Prim.Native.Nat.{ℕ};
-ghost use lib.ListN.{take};
+ghost use Rattle.ground.specs.Kit.{_≡_, [], take};
 ghost use Rattle.text.specs.Ink.{ink, putAll};
 ghost use Rattle.player.specs.Playing.{spoken};
-ghost use Rattle.player.specs.Lines.{numberText, digitsText, senseText, shownText, badLine, playedLine, lineOf};
+ghost use Rattle.player.specs.Lines.{numberText, digitsText, senseText, shownText, playedLine, lineOf};
 
 // A number and a space.
 pub(crate) fn put_number(line: &mut [u8], at: usize, n: u64) -> usize
@@ -36,7 +33,7 @@ pub(crate) fn put_sense(line: &mut [u8], at: usize, sense: Sense) -> usize
 pub(crate) fn put_shown(line: &mut [u8], bytes: &[u8], at: usize, count: usize) -> usize
     ensures { λ r. ⌜ ink r (now (line .exit)) ≡ putAll (ink at (now (line .entry))) (shownText (take count (now (bytes .entry)))) ⌝ }
 {
-    let n = disc::least(count, bytes.len());
+    let n = ground::least(count, bytes.len());
     if n == 0 {
         return at;
     }
@@ -44,20 +41,13 @@ pub(crate) fn put_shown(line: &mut [u8], bytes: &[u8], at: usize, count: usize) 
     text::put_hexes(line, &bytes[..n], next)
 }
 
-pub(crate) fn put_bad(line: &mut [u8], number: u64) -> usize
-    ensures { λ r. ⌜ ink r (now (line .exit)) ≡ putAll (ink 0 (now (line .entry))) (badLine number) ⌝ }
-{
-    let next = text::put_decimal(line, 0, number);
-    text::put_all(line, b" bad\n", next)
-}
-
 fn put_played(line: &mut [u8], out: &[u8], number: u64, outcome: Outcome) -> usize
-    ensures { λ r. ⌜ ((buffer disc : List ℕ) → ink r (now (line .exit))
-        ≡ putAll (ink 0 (now (line .entry))) (playedLine number (spoken outcome (now (out .entry)) buffer disc))) ⌝ }
+    ensures { λ r. ⌜ ink r (now (line .exit)) ≡ putAll (ink 0 (now (line .entry))) (playedLine number (spoken outcome (now (out .entry)) [] [])) ⌝ }
 {
-    let sense = outcome.state.sense;
+    let sense = outcome.state.host.sense;
+    let refusal = outcome.house;
     let house = put_number(line, 0, number);
-    let triple = put_number(line, house, outcome.house as u64);
+    let triple = put_number(line, house, drive::number_of(refusal) as u64);
     let count = put_sense(line, triple, sense);
     let shown = text::put_decimal(line, count, outcome.count as u64);
     let end = put_shown(line, out, shown, outcome.shown);
@@ -65,12 +55,11 @@ fn put_played(line: &mut [u8], out: &[u8], number: u64, outcome: Outcome) -> usi
 }
 
 pub(crate) fn put_line(line: &mut [u8], out: &[u8], number: u64, outcome: Outcome) -> usize
-    ensures { λ r. ⌜ ((buffer disc : List ℕ) → ink r (now (line .exit))
-        ≡ putAll (ink 0 (now (line .entry))) (lineOf number (spoken outcome (now (out .entry)) buffer disc))) ⌝ }
+    ensures { λ r. ⌜ ink r (now (line .exit)) ≡ putAll (ink 0 (now (line .entry))) (lineOf number (spoken outcome (now (out .entry)) [] [])) ⌝ }
 {
     if outcome.bad {
-        put_bad(line, number)
-    } else {
-        put_played(line, out, number, outcome)
+        let next = text::put_decimal(line, 0, number);
+        return text::put_all(line, b" bad\n", next);
     }
+    put_played(line, out, number, outcome)
 }

@@ -1,2 +1,2 @@
 pub mod Pulling
-pub mod Entering
+pub mod ByTransfer

@@ -1,12 +1,11 @@
 -- What a pull leaves in the caller's buffer. Assumes nothing.
-use mathlib.Core.Path.{_≡_, _∙_}
-use mathlib.Core.List.{List, _++_}
-use Prim.Native.Nat.{ℕ, _≤_, _+_, _-_, min}
-use native.Mathlib.Omega.{arith}
-use lib.ListN.{length, take, drop, length-drop}
-use lib.Seq.{length-take-le, take-take, take-at, drop-at, take-add, drop-drop, sets-eq}
-use Rattle.answer.specs.Filling.{fillOf}
-use Rattle.moves.proofs.Parts.{put-back}
+use Rattle.ground.specs.Kit.{_≡_, ap, _∙_, false, List, _++_, ℕ, _≤_, _+_, _-_, min, arith, length, take, drop, length-drop, length-take-le, take-take, take-at, drop-at, take-add, drop-drop, sets-eq}
+use Rattle.state.specs.declared.{State.State, Transfer.Transfer}
+use Rattle.ground.specs.Filling.{Filled, filled, fillOf}
+use Rattle.state.specs.States.{movedOf}
+use Rattle.house.specs.World.{World, inState, reply}
+use Rattle.ground.proofs.Parts.{put-back}
+use Rattle.pulls.specs.Pulling.{pulledOf}
 
 -- a copy of the source's part from `at` to `end` fills as the source from `at` on does
 pub fill-part : (at end : ℕ) (source out : List ℕ) → end ≤ length source
@@ -29,3 +28,8 @@ fill-more source out₀ out last a k r h i j e f =
     put-back out xs last a k i (omega arith) (rw n f)
     ∙ sets-eq xs out a (omega arith)
     ∙ rw (n, ← drop-drop r a out, d, drop-drop r a out₀, t, take-add a r source)
+
+-- a reply, from the bytes that were filled and the state that was made
+pub pulled-by : (w : World) (rest : ℕ → Transfer) (f : Filled) (count : ℕ) (last : List ℕ) (next : State) → filled count last ≡ f
+    → next ≡ movedOf (w .state) (rest count) → reply 0 false count last (inState w next) ≡ pulledOf rest w f
+pulled-by w rest f count last next e n = rw n (ap (pulledOf rest w) e)

@@ -1,61 +1,85 @@
 // Pull: how the bytes of an answer or of the disc come to a lent buffer, with the house refusals.
-mod pulls;
+mod blocks;
 
-ghost use mathlib.Core.Path.{_≡_};
+ghost use Rattle.ground.specs.Kit.{_≡_};
 ghost use Rattle.house.specs.World.{world};
-ghost use Rattle.moves.specs.Places.{Ahead};
-ghost use Rattle.moves.specs.Moves.{moved, answerAfter, discAfter};
-ghost use Rattle.pulls.specs.Pulls.{pulled, pullOf};
+ghost use Rattle.moves.specs.Places.{AnswerSpan, ReadSpan};
+ghost use Rattle.moves.specs.Replies.{moved};
+ghost use Rattle.pulls.specs.Pulling.{answerPulled, readPulled, pullOf};
 use disc::BytePlace;
 use house::House;
 use moves::MoveReply;
-use moves::onward;
-use moves::unmoved;
 use state::AnswerAt;
 use state::DiscAt;
 use state::State;
 use state::Transfer;
 
-// An answer, `count` bytes further on.
-fn answer_after(from: AnswerAt, count: usize) -> AnswerAt
-    requires { ⌜ Ahead (from .at) (from .left) count ⌝ }
-    ensures { λ r. ⌜ r ≡ answerAfter from count ⌝ }
+// An open answer gives its first min(out, left) bytes from the block buffer.
+fn pull_answer(
+    state: State,
+    from: AnswerAt,
+    out: &mut [u8],
+    buffer: &[u8],
+    disc: &[u8],
+) -> MoveReply
+    requires { ⌜ AnswerSpan from (now buffer) ⌝ }
+    ensures { λ r. ⌜ moved r (now (out .exit)) (now (buffer .entry)) (now (disc .entry))
+        ≡ answerPulled from (world state (now (buffer .entry)) (now (disc .entry))) (now (out .entry)) ⌝ }
 {
-    AnswerAt {
-        at: from.at + count,
+    let at = from.at;
+    let end = at + from.left;
+    let count = ground::fill(&buffer[at..end], out);
+    let rest = AnswerAt {
+        at: at + count,
         left: from.left - count,
+    };
+    let next = state::moved(state, Transfer::Answer(rest));
+    MoveReply {
+        house: House::Accepted,
+        count: count,
+        state: next,
     }
 }
 
-// A read or a write, `count` bytes further on.
-fn disc_after(from: DiscAt, count: usize) -> DiscAt
-    requires { ⌜ Ahead (from .at .0) (from .left) count ⌝ }
-    ensures { λ r. ⌜ r ≡ discAfter from count ⌝ }
+// An open read gives its first min(out, left) bytes from the disc.
+fn pull_read(state: State, from: DiscAt, out: &mut [u8], buffer: &[u8], disc: &[u8]) -> MoveReply
+    requires { ⌜ ReadSpan (state .media .disc) from (now disc) ⌝ }
+    ensures { λ r. ⌜ moved r (now (out .exit)) (now (buffer .entry)) (now (disc .entry))
+        ≡ readPulled from (world state (now (buffer .entry)) (now (disc .entry))) (now (out .entry)) ⌝ }
 {
-    DiscAt {
+    let count = blocks::pull_blocks(from, state.media.disc, disc, out);
+    let rest = DiscAt {
         at: BytePlace(from.at.0 + count),
         left: from.left - count,
+    };
+    let next = state::moved(state, Transfer::Read(rest));
+    MoveReply {
+        house: House::Accepted,
+        count: count,
+        state: next,
     }
 }
 
 pub fn pull(state: State, out: &mut [u8], buffer: &[u8], disc: &[u8]) -> MoveReply
-    ensures { λ r. ⌜ pulled (moved r (now (buffer .entry)) (now (disc .entry))) (now (out .exit))
+    ensures { λ r. ⌜ moved r (now (out .exit)) (now (buffer .entry)) (now (disc .entry))
         ≡ pullOf (world state (now (buffer .entry)) (now (disc .entry))) (now (out .entry)) ⌝ }
 {
-    let house = house::lent_house(state, buffer.len(), disc.len());
+    let house = house::move_house(state, buffer.len(), disc.len());
     if house::number_of(house) != 0 {
-        return unmoved(house, state);
+        return MoveReply {
+            house: house,
+            count: 0,
+            state: state,
+        };
     }
     let transfer = state.transfer;
     match transfer {
-        Transfer::Answer(from) => {
-            let count = pulls::pull_answer(from, buffer, out);
-            onward(state, count, Transfer::Answer(answer_after(from, count)))
-        }
-        Transfer::Read(from) => {
-            let count = pulls::pull_blocks(from, state.disc, disc, out);
-            onward(state, count, Transfer::Read(disc_after(from, count)))
-        }
-        _ => unmoved(House::Accepted, state),
+        Transfer::Answer(from) => pull_answer(state, from, out, buffer, disc),
+        Transfer::Read(from) => pull_read(state, from, out, buffer, disc),
+        _ => MoveReply {
+            house: House::Accepted,
+            count: 0,
+            state: state,
+        },
     }
 }

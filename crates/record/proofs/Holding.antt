@@ -1,67 +1,58 @@
 -- What a record holds, row by row. Assumes nothing.
-use mathlib.Core.Path.{_≡_, refl}
-use mathlib.Core.Bool.{Bool, true, false, cond, _&&_}
-use mathlib.Core.List.{List, [], _∷_}
-use Prim.Native.Nat.{ℕ, _≤_}
-use native.Mathlib.Omega.{arith}
-use borrow.Author.Tests.{leb-true}
-use lib.Dec.{eqb, leb}
-use lib.ListN.{length}
-use Rattle.disc.proofs.Truth.{both}
-use Rattle.packet.specs.Fields.{byteAt}
-use Rattle.record.specs.Records.{Row, fieldOf, lengthField, kindField, wholeB, saidBy, scriptRows, recordOf}
+use Rattle.ground.specs.Kit.{_≡_, refl, Bool, true, false, cond, _&&_, List, ℕ, _≤_, arith, leb-true, leb, length}
+use Rattle.record.specs.declared.{Record.Record}
+use Rattle.ground.specs.Bytes.{byteAt, little}
+use Rattle.ground.proofs.Truth.{both}
+use Rattle.ground.proofs.Tables.{found}
+use Rattle.ground.proofs.Each.{found-each}
+use Rattle.record.specs.Records.{Row, lengthField, kindField, wholeB, scriptRows, otherRow, rowOf, recordOf}
 use Rattle.record.specs.Holding.{There, Holds, AllHold}
-use Rattle.record.specs.declared.Record.{Record}
 use Rattle.record.specs.declared.Record.the-variants.{Bad}
 
 -- the tests that a whole record has passed
-pub record Whole (least most : ℕ) (bytes : List ℕ) : Type 0 where
-  pub low : least ≤ lengthField bytes
-  pub high : lengthField bytes ≤ most
+pub record Whole (r : Row) (bytes : List ℕ) : Type 0 where
+  pub low : r .least ≤ lengthField bytes
+  pub high : lengthField bytes ≤ r .most
   pub there : lengthField bytes ≤ length bytes
 
-pub whole : (least most : ℕ) (bytes : List ℕ) → wholeB least most bytes ≡ true → Whole least most bytes
-whole least most bytes w =
+pub whole : (r : Row) (bytes : List ℕ) → wholeB (r .least) (r .most) bytes ≡ true → Whole r bytes
+whole r bytes w =
     let n = lengthField bytes in
-    let (ends, there) = both (leb least n && leb n most) (leb n (length bytes)) w in
-    let (low, high) = both (leb least n) (leb n most) ends in
-    record { low = leb-true least n low; high = leb-true n most high; there = leb-true n (length bytes) there }
+    let (ends, there) = both (leb (r .least) n && leb n (r .most)) (leb n (length bytes)) w in
+    let (low, high) = both (leb (r .least) n) (leb n (r .most)) ends in
+    record { low = leb-true (r .least) n low; high = leb-true n (r .most) high; there = leb-true n (length bytes) there }
 
--- every row's least length counts the header
-there : (least most : ℕ) (bytes : List ℕ) → 4 ≤ least → wholeB least most bytes ≡ true → There bytes
-there least most bytes h w = let t = whole least most bytes w in (omega (arith, h, t .low), t .there)
+-- every row's least length counts the header, and no record has more than 516 bytes
+pub record Bounded (r : Row) : Type 0 where
+  pub header : 4 ≤ r .least
+  pub few : r .most ≤ 516
+
+pub bounded : (bytes : List ℕ) → Bounded (rowOf bytes)
+unfolding scriptRows
+bounded bytes =
+    let (header, few) = both _ _ (found (λ _ r. leb 4 (r .least) && leb (r .most) 516) otherRow (kindField bytes) refl scriptRows refl) in
+    record { header = leb-true 4 _ header; few = leb-true _ 516 few }
 
 -- a test that fails leaves a record bad
 if-good : (bytes : List ℕ) (t : Bool) (r : Record) → (t ≡ true → Holds r bytes) → Holds (cond t r Bad) bytes
 if-good bytes true r h = h refl
 if-good bytes false r h = tt
 
-abbrev AllRows : List Row → List ℕ → Type 0
-AllRows [] bytes = Unit
-AllRows (r ∷ rs) bytes = (wholeB (r .least) (r .most) bytes ≡ true → Holds (r .says bytes) bytes) × AllRows rs bytes
-
-either : (bytes : List ℕ) (t : Bool) (r q : Record) → Holds r bytes → Holds q bytes → Holds (cond t r q) bytes
-either bytes true r q h g = h
-either bytes false r q h g = g
-
-all-rows : (rs : List Row) (bytes : List ℕ) → AllRows rs bytes → Holds (saidBy rs bytes) bytes
-all-rows [] bytes _ = tt
-all-rows (r ∷ rs) bytes (one, rest) =
-    either bytes (eqb (kindField bytes) (r .kind)) _ _ (if-good bytes (wholeB (r .least) (r .most) bytes) (r .says bytes) one) (all-rows rs bytes rest)
+-- row by row, and of another kind
+each-holds : (bytes : List ℕ) → There bytes → Whole (rowOf bytes) bytes → Holds (rowOf bytes .says bytes) bytes
+unfolding scriptRows
+each-holds bytes there =
+    found-each (λ r. Whole r bytes → Holds (r .says bytes) bytes) otherRow (kindField bytes) scriptRows
+    (λ _. if-good bytes (leb (byteAt bytes 5) 1) _ (λ _. there))
+    (λ _. there)
+    (λ w. (there, omega (arith, w .low, w .high)))
+    (λ w. (there, omega (arith, w .low)))
+    (λ _. if-good bytes (leb (little (byteAt bytes 4) (byteAt bytes 5)) 512) _ (λ t. (there, leb-true _ 512 t)))
+    (λ _. tt)
 
 pub all-hold : AllHold
-unfolding recordOf scriptRows
+unfolding recordOf
 all-hold bytes =
-    all-rows scriptRows bytes (
-      (λ w. if-good bytes (leb (byteAt bytes 5) 1) _ (λ _. there 6 6 bytes (omega arith) w)),
-      (
-        there 4 4 bytes (omega arith),
-        (
-          (λ w. let h = whole 16 16 bytes w in (there 16 16 bytes (omega arith) w, omega (arith, h .low, h .high))),
-          (
-            (λ w. let h = whole 4 516 bytes w in (there 4 516 bytes (omega arith) w, omega (arith, h .low))),
-            ((λ w. if-good bytes (leb (fieldOf (byteAt bytes 4) (byteAt bytes 5)) 512) _ (λ t. (there 6 6 bytes (omega arith) w, leb-true _ 512 t))), tt),
-          ),
-        ),
-      ),
-    )
+    let r = rowOf bytes in
+    if-good bytes (wholeB (r .least) (r .most) bytes) (r .says bytes)
+    (λ t. let w = whole r bytes t in each-holds bytes (omega (arith, bounded bytes .header, w .low), w .there) w)

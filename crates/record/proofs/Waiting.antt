@@ -1,69 +1,13 @@
 -- A record that can be told stays the same whatever comes behind it. Assumes nothing.
-use mathlib.Core.Path.{_≡_, refl, ap}
-use mathlib.Core.Bool.{Bool, true, false, cond, _&&_, _||_}
-use mathlib.Core.Logic.{_⊎_, inl, inr, ⊎-elim}
-use mathlib.Core.List.{List, [], _∷_, _++_}
-use Prim.Native.Nat.{ℕ, _+_, _<_, _≤_}
-use native.Mathlib.Omega.{arith}
-use borrow.Author.Tests.{leb-true, leb-false, ltb-true, ltb-false, le-leb, lt-leb, lt-ltb}
-use lib.Dec.{leb, ltb, eqb}
-use lib.ListN.{length, length-append, List·getD-append}
-use Rattle.disc.proofs.Truth.{both, neither}
-use Rattle.packet.specs.Fields.{byteAt}
-use Rattle.record.specs.Records.{Row, fieldOf, lengthField, kindField, wholeB, insertRecord, pullRecord, twoBytes, saidBy, scriptRows, recordOf}
+use Rattle.ground.specs.Kit.{_≡_, refl, Bool, true, false, cond, _&&_, _||_, and-false, or-true, _⊎_, inl, inr, ⊎-elim, List, _++_, ℕ, _<_, _≤_, arith, leb-true, leb-false, ltb-true, ltb-false, le-leb, lt-leb, lt-ltb, leb, ltb, length, length-append, List·getD-append}
+use Rattle.record.specs.declared.{Record.Record}
+use Rattle.ground.specs.Bytes.{byteAt, little}
+use Rattle.ground.proofs.Truth.{both, neither}
+use Rattle.ground.proofs.Each.{found-each}
+use Rattle.record.specs.Records.{lengthField, kindField, wholeB, insertRecord, pullRecord, twoBytes, scriptRows, otherRow, rowOf, recordOf}
 use Rattle.record.specs.Waiting.{enoughB, EnoughTells, FewCome}
-use Rattle.record.proofs.Holding.{whole}
-use Rattle.record.specs.declared.Record.{Record}
+use Rattle.record.proofs.Holding.{Whole, whole, bounded}
 use Rattle.record.specs.declared.Record.the-variants.{Bad}
-
--- a byte that has come stays where it is
-in-front : (xs ys : List ℕ) (i : ℕ) → i < length xs → byteAt (xs ++ ys) i ≡ byteAt xs i
-in-front xs ys i h = List·getD-append xs ys 0 i h
-
-fields : (xs ys : List ℕ) (i j : ℕ) → i < length xs → j < length xs
-    → fieldOf (byteAt (xs ++ ys) i) (byteAt (xs ++ ys) j) ≡ fieldOf (byteAt xs i) (byteAt xs j)
-fields xs ys i j hi hj = rw (in-front xs ys i hi, in-front xs ys j hj)
-
--- a row whose record is told alike of two scripts
-record Alike (a b : List ℕ) (r : Row) : Type 0 where
-  whole : wholeB (r .least) (r .most) a ≡ wholeB (r .least) (r .most) b
-  says : wholeB (r .least) (r .most) b ≡ true → r .says a ≡ r .says b
-
-abbrev AllAlike : List ℕ → List ℕ → List Row → Type 0
-AllAlike a b [] = Unit
-AllAlike a b (r ∷ rs) = Alike a b r × AllAlike a b rs
-
-if-alike : (t : Bool) (r q : Record) → (t ≡ true → r ≡ q) → cond t r Bad ≡ cond t q Bad
-if-alike true r q e = e refl
-if-alike false r q e = refl
-
-all-said : (a b : List ℕ) → kindField a ≡ kindField b → (rs : List Row) → AllAlike a b rs → saidBy rs a ≡ saidBy rs b
-all-said a b k [] _ = refl
-all-said a b k (r ∷ rs) (one, rest) =
-    rw (k, one .whole, all-said a b k rs rest)
-    (ap
-    (λ (q : Record). cond (eqb (kindField b) (r .kind)) q (saidBy rs b))
-    (if-alike (wholeB (r .least) (r .most) b) (r .says a) (r .says b) (one .says)))
-
-and-false : (a : Bool) → (a && false) ≡ false
-and-false true = refl
-and-false false = refl
-
--- the length has come: a row's test is the same, if the record is whole or longer than any
-wholes : (a b : List ℕ) (least most : ℕ) → lengthField a ≡ lengthField b → length b ≤ length a → most ≤ 516
-    → (lengthField b ≤ length b) ⊎ (516 < lengthField b) → wholeB least most a ≡ wholeB least most b
-wholes a b least most e n m (inl short) =
-    rw (e, le-leb (lengthField b) (length b) short, le-leb (lengthField b) (length a) (omega (arith, n, short)))
-wholes a b least most e n m (inr long) =
-    rw (e, lt-leb (lengthField b) most (omega (arith, long, m)), and-false (leb least (lengthField b)))
-
-either : (a b : Bool) → (a || b) ≡ true → (a ≡ true) ⊎ (b ≡ true)
-either true b e = inl refl
-either false b e = inr e
-
-or-true : (a : Bool) → (a || true) ≡ true
-or-true true = refl
-or-true false = refl
 
 -- what has come, and that the record is whole or longer than any
 record Come (bytes : List ℕ) : Type 0 where
@@ -72,53 +16,76 @@ record Come (bytes : List ℕ) : Type 0 where
 
 come : (bytes : List ℕ) → enoughB bytes ≡ true → Come bytes
 come bytes h =
-    let n = lengthField bytes in
     let (header, rest) = both (leb 4 (length bytes)) (leb n (length bytes) || ltb 516 n) h in
-    record {
-      header = leb-true 4 (length bytes) header;
-      rest = ⊎-elim (λ e. inl (leb-true n (length bytes) e)) (λ e. inr (ltb-true 516 n e)) (either (leb n (length bytes)) (ltb 516 n) rest);
-    }
+    record { header = leb-true 4 (length bytes) header; rest = either (leb n (length bytes)) refl rest }
+  where
+    n : ℕ
+    n = lengthField bytes
+
+    either : (b : Bool) → leb n (length bytes) ≡ b → (b || ltb 516 n) ≡ true → (n ≤ length bytes) ⊎ (516 < n)
+    either true e _ = inl (leb-true n (length bytes) e)
+    either false _ t = inr (ltb-true 516 n t)
+
+if-alike : (t : Bool) (r q : Record) → (t ≡ true → r ≡ q) → cond t r Bad ≡ cond t q Bad
+if-alike true r q e = e refl
+if-alike false r q e = refl
 
 module _ (bytes more : List ℕ) (c : Come bytes) where
   longer : length bytes ≤ length (bytes ++ more)
-  longer = rw (length-append bytes more) (omega (arith))
+  longer = rw (length-append bytes more) (omega arith)
+
+  -- bytes that have come stay where they are
+  fields : (i j : ℕ) → i < length bytes → j < length bytes
+      → little (byteAt (bytes ++ more) i) (byteAt (bytes ++ more) j) ≡ little (byteAt bytes i) (byteAt bytes j)
+  fields i j hi hj = rw (List·getD-append bytes more 0 i hi, List·getD-append bytes more 0 j hj)
 
   long : lengthField (bytes ++ more) ≡ lengthField bytes
-  long = fields bytes more 0 1 (omega (arith, c .header)) (omega (arith, c .header))
+  long = fields 0 1 (omega arith) (omega arith)
 
-  alike : (least most : ℕ) → most ≤ 516 → wholeB least most (bytes ++ more) ≡ wholeB least most bytes
-  alike least most m = wholes (bytes ++ more) bytes least most long longer m (c .rest)
+  kind : kindField (bytes ++ more) ≡ kindField bytes
+  kind = fields 2 3 (omega arith) (omega arith)
 
-  -- a record of 6 bytes
-  six : (says : ℕ → ℕ → Record) (kind : ℕ) → Alike (bytes ++ more) bytes (record { kind = kind; least = 6; most = 6; says = twoBytes says })
-  six says kind = record {
-    whole = alike 6 6 (omega arith);
-    says = λ w. let h = whole 6 6 bytes w in rw (in-front bytes more 4 (omega (arith, h .low, h .there)), in-front bytes more 5 (omega (arith, h .low, h .there)));
-  }
+  -- a record that is whole stays so, and one that is longer than any stays too long
+  wholes : (least most : ℕ) → most ≤ 516 → wholeB least most (bytes ++ more) ≡ wholeB least most bytes
+  wholes least most m =
+      let n = lengthField bytes in
+      rw long
+      (⊎-elim
+      (λ short. rw (le-leb n (length bytes) short, le-leb n (length (bytes ++ more)) (omega (arith, longer))))
+      (λ wide. rw (lt-leb n most (omega arith), and-false (leb least n)))
+      (c .rest))
+
+  two : (says : ℕ → ℕ → Record) → 6 ≤ lengthField bytes → lengthField bytes ≤ length bytes → twoBytes says (bytes ++ more) ≡ twoBytes says bytes
+  two says low there = rw (List·getD-append bytes more 0 4 (omega arith), List·getD-append bytes more 0 5 (omega arith))
+
+  -- row by row, and of another kind
+  each-alike : Whole (rowOf bytes) bytes → rowOf bytes .says (bytes ++ more) ≡ rowOf bytes .says bytes
+  unfolding scriptRows
+  each-alike =
+      found-each (λ r. Whole r bytes → r .says (bytes ++ more) ≡ r .says bytes) otherRow (kindField bytes) scriptRows
+      (λ w. two insertRecord (w .low) (w .there))
+      (λ _. refl)
+      (λ _. refl)
+      (λ _. rw long)
+      (λ w. two pullRecord (w .low) (w .there))
+      (λ _. refl)
 
   same : recordOf (bytes ++ more) ≡ recordOf bytes
-  unfolding recordOf scriptRows
+  unfolding recordOf
   same =
-      all-said (bytes ++ more) bytes (fields bytes more 2 3 (omega (arith, c .header)) (omega (arith, c .header))) scriptRows (
-        six insertRecord 1,
-        (
-          record { whole = alike 4 4 (omega arith); says = λ _. refl },
-          (
-            record { whole = alike 16 16 (omega arith); says = λ _. refl },
-            (
-              record { whole = alike 4 516 (omega arith); says = λ _. rw long },
-              (six pullRecord 5, tt),
-            ),
-          ),
-        ),
-      )
+      let r = rowOf bytes in
+      rw (kind, wholes (r .least) (r .most) (bounded bytes .few))
+      (if-alike (wholeB (r .least) (r .most) bytes) (r .says (bytes ++ more)) (r .says bytes)
+      (λ t. each-alike (whole r bytes t)))
 
   still : enoughB (bytes ++ more) ≡ true
   still =
-      ⊎-elim
-      (λ short. rw (long, le-leb 4 (length (bytes ++ more)) (omega (arith, longer, c .header)), le-leb (lengthField bytes) (length (bytes ++ more)) (omega (arith, longer, short))))
-      (λ wide. rw (long, le-leb 4 (length (bytes ++ more)) (omega (arith, longer, c .header)), lt-ltb 516 (lengthField bytes) wide) (or-true (leb (lengthField bytes) (length (bytes ++ more)))))
-      (c .rest)
+      let n = lengthField bytes in
+      rw (long, le-leb 4 (length (bytes ++ more)) (omega (arith, longer)))
+      (⊎-elim
+      (λ short. rw (le-leb n (length (bytes ++ more)) (omega (arith, longer))))
+      (λ wide. rw (lt-ltb 516 n wide) (or-true (leb n (length (bytes ++ more)))))
+      (c .rest))
 
 pub enough-tells : EnoughTells
 enough-tells bytes h =
@@ -128,13 +95,10 @@ enough-tells bytes h =
 pub few-come : FewCome
 few-come bytes e = here (leb 4 (length bytes)) refl e
   where
-    n : ℕ
-    n = lengthField bytes
-
-    here : (b : Bool) → leb 4 (length bytes) ≡ b → (b && (leb n (length bytes) || ltb 516 n)) ≡ false → length bytes < 516
-    here false f _ = let h = leb-false 4 (length bytes) f in omega (arith, h)
-    here true f g =
+    here : (b : Bool) → leb 4 (length bytes) ≡ b → (b && (leb (lengthField bytes) (length bytes) || ltb 516 (lengthField bytes))) ≡ false
+        → length bytes < 516
+    here false f _ = omega (arith, leb-false 4 (length bytes) f)
+    here true _ g =
+        let n = lengthField bytes in
         let (cut, short) = neither (leb n (length bytes)) (ltb 516 n) g in
-        let h = leb-false n (length bytes) cut in
-        let m = ltb-false 516 n short in
-        omega (arith, h, m)
+        omega (arith, leb-false n (length bytes) cut, ltb-false 516 n short)

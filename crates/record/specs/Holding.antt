@@ -1,10 +1,7 @@
 -- What a record that isn't bad says of the bytes behind its header.
-use mathlib.Core.Path.{_≡_}
-use mathlib.Core.List.{List}
-use Prim.Native.Nat.{ℕ, _+_, _≤_}
-use lib.ListN.{length}
+use Rattle.ground.specs.Kit.{_≡_, List, ℕ, _+_, _≤_, length}
+use Rattle.record.specs.declared.{Record.Record}
 use Rattle.record.specs.Records.{lengthField, recordOf}
-use Rattle.record.specs.declared.Record.{Record}
 use Rattle.record.specs.declared.Record.the-variants.{Insert, Eject, Command, Feed, Pull, Bad}
 
 -- its length counts the header, and it is whole

@@ -1,10 +1,5 @@
 -- When the record at the front of a script can be told from the bytes that have come so far.
-use mathlib.Core.Path.{_≡_}
-use mathlib.Core.Bool.{Bool, true, false, _&&_, _||_}
-use mathlib.Core.List.{List, _++_}
-use Prim.Native.Nat.{ℕ, _<_}
-use lib.Dec.{leb, ltb}
-use lib.ListN.{length}
+use Rattle.ground.specs.Kit.{_≡_, Bool, true, false, _&&_, _||_, List, _++_, ℕ, _<_, leb, ltb, length}
 use Rattle.record.specs.Records.{lengthField, recordOf}
 
 -- its length and kind have come, and it is whole or longer than any record

@@ -1,11 +1,10 @@
 // The bytes of a script, taken apart record by record.
-ghost use mathlib.Core.Path.{_≡_};
-ghost use mathlib.Core.Bool.{cond};
-ghost use Prim.Native.Nat.{_-_};
+ghost use Rattle.ground.specs.Kit.{_≡_, cond, _-_};
 ghost use Rattle.record.specs.declared.Record.the-variants.{Bad};
-ghost use Rattle.record.specs.Records.{fieldOf, lengthField, kindField, wholeB, ifWhole, insertRecord, pullRecord, recordOf};
+ghost use Rattle.record.specs.Records.{lengthField, kindField, wholeB, ifWhole, insertRecord, pullRecord, recordOf};
 ghost use Rattle.record.specs.Waiting.{enoughB};
-use packet::byte;
+use ground::byte;
+use ground::little_of;
 
 // What a record asks to be played.
 pub enum Record {
@@ -49,23 +48,16 @@ const FEED: usize = 4;
 
 const PULL: usize = 5;
 
-// A field of two bytes, little-endian.
-fn field(low: u8, high: u8) -> usize
-    ensures { λ r. ⌜ r ≡ fieldOf low high ⌝ }
-{
-    (low as usize) + (high as usize) * 256
-}
-
 pub fn length_field(bytes: &[u8]) -> usize
     ensures { λ r. ⌜ r ≡ lengthField (now (bytes .entry)) ⌝ }
 {
-    field(byte(bytes, 0), byte(bytes, 1))
+    little_of(byte(bytes, 0), byte(bytes, 1))
 }
 
 fn kind_field(bytes: &[u8]) -> usize
     ensures { λ r. ⌜ r ≡ kindField (now (bytes .entry)) ⌝ }
 {
-    field(byte(bytes, 2), byte(bytes, 3))
+    little_of(byte(bytes, 2), byte(bytes, 3))
 }
 
 // Whether the record at the front has a length from `least` to `most`, and is not cut short.
@@ -117,7 +109,7 @@ fn after_header(bytes: &[u8]) -> usize
 fn pull(low: u8, high: u8) -> Record
     ensures { λ r. ⌜ r ≡ pullRecord low high ⌝ }
 {
-    let count = field(low, high);
+    let count = little_of(low, high);
     if_good(count <= PIECE_BYTES, Record::Pull(count))
 }
 

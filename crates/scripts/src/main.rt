@@ -7,9 +7,7 @@ use libc::STDIN_FILENO;
 use libc::STDOUT_FILENO;
 use player::Progress;
 use state::State;
-ghost use mathlib.Core.Path.{_≡_};
-ghost use Prim.Native.Nat.{_<_, _≤_};
-ghost use lib.ListN.{length};
+ghost use Rattle.ground.specs.Kit.{_≡_, _<_, _≤_, length};
 
 const TEXT_BYTES: usize = 262144;
 
@@ -53,7 +51,7 @@ fn play(script: &[u8]) {
         }
         let after = step.state;
         state = after;
-        at += disc::least(step.used, script.len() - at);
+        at += ground::least(step.used, script.len() - at);
     }
 }
 

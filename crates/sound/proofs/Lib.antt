@@ -1,2 +1,2 @@
-pub mod Keeps
-pub mod Transfers
+pub mod Opened
+pub mod Keeping

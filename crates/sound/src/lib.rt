@@ -1,35 +1,10 @@
 // The test that a state is sound.
-ghost use mathlib.Core.Path.{_≡_};
-ghost use Prim.Native.Nat.{_+_};
-ghost use lib.Dec.{leb};
-ghost use Rattle.state.specs.Senses.{sameB, namedB};
-ghost use Rattle.sound.specs.Sound.{endsOnBlockB, onDiscB, openSoundB, soundB};
+ghost use Rattle.ground.specs.Kit.{_≡_, _+_, leb};
+ghost use Rattle.sound.specs.Soundness.{endsOnBlockB, onDiscB, openSoundB, soundB};
 use state::DiscAt;
-use state::Sense;
+use state::Media;
 use state::State;
 use state::Transfer;
-
-fn same(a: Sense, b: Sense) -> bool
-    ensures { λ r. ⌜ r ≡ sameB a b ⌝ }
-{
-    (a.0 == b.0) & (a.1 == b.1) & (a.2 == b.2)
-}
-
-// The triple is none, or that of a failure.
-fn named(sense: Sense) -> bool
-    ensures { λ r. ⌜ r ≡ namedB sense ⌝ }
-{
-    same(sense, state::NO_SENSE)
-        | same(sense, state::UNKNOWN_CODE)
-        | same(sense, state::OTHER_UNIT)
-        | same(sense, state::POWER_ON)
-        | same(sense, state::CHANGE)
-        | same(sense, state::NO_DISC)
-        | same(sense, state::BAD_FIELD)
-        | same(sense, state::NOT_SAVED)
-        | same(sense, state::OUT_OF_RANGE)
-        | same(sense, state::PROTECTED)
-}
 
 // `at + left <= limit`, with no sum that could wrap.
 fn ends_within(at: usize, left: usize, limit: usize) -> bool
@@ -62,24 +37,27 @@ fn on_disc(number: u8, p: DiscAt) -> bool
     (number != 0) & (0 < p.left) & ends_within(p.at.0, p.left, full)
 }
 
-fn open_soundly(number: u8, protected: bool, transfer: Transfer) -> bool
-    ensures { λ r. ⌜ r ≡ openSoundB number protected transfer ⌝ }
+fn open_soundly(media: Media, transfer: Transfer) -> bool
+    ensures { λ r. ⌜ r ≡ openSoundB media transfer ⌝ }
 {
     match transfer {
         Transfer::Closed => true,
         Transfer::Answer(p) => (0 < p.left) & ends_within(p.at, p.left, disc::BUFFER_BYTES),
-        Transfer::Read(p) => on_disc(number, p),
-        Transfer::Write(p) => on_disc(number, p) & ends_on_block(number, p) & !protected,
+        Transfer::Read(p) => on_disc(media.disc, p),
+        Transfer::Write(p) => {
+            on_disc(media.disc, p) & ends_on_block(media.disc, p) & !media.protected
+        }
     }
 }
 
 pub fn sound(state: State) -> bool
     ensures { λ r. ⌜ r ≡ soundB state ⌝ }
 {
-    let sense = state.sense;
+    let media = state.media;
+    let sense = state.host.sense;
     let transfer = state.transfer;
-    (state.disc <= 4)
-        & ((state.disc != 0) | !state.protected)
-        & named(sense)
-        & open_soundly(state.disc, state.protected, transfer)
+    (media.disc <= 4)
+        & ((media.disc != 0) | !media.protected)
+        & state::named(sense)
+        & open_soundly(media, transfer)
 }

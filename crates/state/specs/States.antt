@@ -1,37 +1,32 @@
 -- Paper 01, "State": what the drive remembers, and what each kind of call makes of it.
-use mathlib.Core.Bool.{Bool, true, false, cond}
-use Prim.Native.Nat.{ℕ}
-use lib.Dec.{eqb}
-use Rattle.state.specs.declared.Sense.{Sense}
-use Rattle.state.specs.declared.State.{State}
-use Rattle.state.specs.declared.Attention.the-variants.{PowerOn, Change}
-use Rattle.state.specs.declared.Fault.the-variants.{NoDisc}
-use Rattle.state.specs.declared.Failure.{Failure}
-use Rattle.state.specs.declared.Failure.the-variants.{Pending, Found}
-use Rattle.state.specs.declared.Transfer.{Transfer}
+use Rattle.ground.specs.Kit.{Bool, true, false, cond, not, _&&_, ℕ, eqb}
+use Rattle.state.specs.declared.{Sense.Sense, Media.Media, Host.Host, State.State, Transfer.Transfer}
 use Rattle.state.specs.declared.Transfer.the-variants.{Closed, Answer, Read, Write}
-use Rattle.state.specs.Senses.{noSense, senseOf}
+use Rattle.state.specs.Senses.{noSense, powerTold, changeTold, noDisc, sameB}
 
--- "Disc number, write protection, motor flag, two attention flags (power-on, change), one sense triple, and one transfer"
-abbrev pub stateOf : ℕ → Bool → Bool → Bool → Bool → Sense → Transfer → State
-stateOf disc prot motor powerOn change sense transfer =
-    record {
-      disc = disc;
-      protected = prot;
-      motor = motor;
-      «power_on» = powerOn;
-      change = change;
-      sense = sense;
-      transfer = transfer;
-    }
+-- "Disc number, write protection"
+abbrev pub mediaOf : ℕ → Bool → Media
+mediaOf disc prot = record { disc = disc; protected = prot }
+
+-- "two attention flags (power-on, change), one sense triple"
+abbrev pub hostOf : Bool → Bool → Sense → Host
+hostOf power change sense = record { power = power; change = change; sense = sense }
+
+-- "Disc number, write protection, motor flag, two attention flags .., one sense triple, and one transfer"
+abbrev pub stateOf : Media → Bool → Host → Transfer → State
+stateOf media motor host transfer = record { media = media; motor = motor; host = host; transfer = transfer }
+
+-- "Number 0 means no disc."
+abbrev pub noMedia : Media
+noMedia = mediaOf 0 false
 
 -- "no disc, motor off, power-on flag set, change flag clear, no sense, closed"
 abbrev pub powerOn : State
-powerOn = stateOf 0 false false true false noSense Closed
+powerOn = stateOf noMedia false (hostOf true false noSense) Closed
 
--- the same but for sense and transfer
-abbrev pub withTransfer : State → Sense → Transfer → State
-withTransfer s sense transfer = stateOf (s .disc) (s .protected) (s .motor) (s .«power_on») (s .change) sense transfer
+-- "06 29 00 for power-on, else 06 28 00; that one flag is cleared": by the triple that the host is told; any other leaves both
+abbrev pub told : Host → Sense → Host
+told h sense = hostOf (not (sameB sense powerTold) && h .power) (not (sameB sense changeTold) && h .change) sense
 
 -- how many bytes are left of a transfer
 abbrev pub leftOf : Transfer → ℕ
@@ -40,36 +35,33 @@ leftOf (Answer p) = p .left
 leftOf (Read p) = p .left
 leftOf (Write p) = p .left
 
+abbrev pub isOpenB : Transfer → Bool
+isOpenB Closed = false
+isOpenB (Answer p) = true
+isOpenB (Read p) = true
+isOpenB (Write p) = true
+
 -- "with 0 bytes it stays closed"; "length 0 passes and stays closed"; "At 0 left the transfer closes."
 abbrev pub closedAtZero : Transfer → Transfer
 closedAtZero t = cond (eqb (leftOf t) 0) Closed t
 
 -- "Insertion sets number, protection and the change flag, nothing else."
 unfoldable pub insertedOf : State → ℕ → Bool → State
-insertedOf s number prot = stateOf number prot (s .motor) (s .«power_on») true (s .sense) (s .transfer)
+insertedOf s number prot = stateOf (mediaOf number prot) (s .motor) (hostOf (s .host .power) true (s .host .sense)) (s .transfer)
 
 -- "if one was open, of any kind, the sense becomes 02 3A 00"
 abbrev pub senseAfter : Sense → Transfer → Sense
-senseAfter sense Closed = sense
-senseAfter sense (Answer p) = senseOf (Found NoDisc)
-senseAfter sense (Read p) = senseOf (Found NoDisc)
-senseAfter sense (Write p) = senseOf (Found NoDisc)
+senseAfter sense t = cond (isOpenB t) noDisc sense
 
 -- "Ejection clears number and protection and closes the transfer; .. Flags stay."
 unfoldable pub ejectedOf : State → State
 ejectedOf s =
-    stateOf 0 false (s .motor) (s .«power_on») (s .change) (senseAfter (s .sense) (s .transfer)) Closed
+    stateOf noMedia (s .motor) (hostOf (s .host .power) (s .host .change) (senseAfter (s .host .sense) (s .transfer))) Closed
 
--- a failed command: its sense, "that one flag is cleared", the transfer closed
-unfoldable pub failedOf : State → Failure → State
-failedOf s (Pending PowerOn) = stateOf (s .disc) (s .protected) (s .motor) false (s .change) (senseOf (Pending PowerOn)) Closed
-failedOf s (Pending Change) = stateOf (s .disc) (s .protected) (s .motor) (s .«power_on») false (senseOf (Pending Change)) Closed
-failedOf s (Found fault) = withTransfer s (senseOf (Found fault)) Closed
+-- a command: the triple that it answers, its motor flag, and the transfer that it opens, if any
+unfoldable pub obeyedOf : State → Sense → Bool → Transfer → State
+obeyedOf s sense motor transfer = stateOf (s .media) motor (told (s .host) sense) (closedAtZero transfer)
 
--- a passed command: "A command that passes sets the sense to 00 00 00, also INQUIRY."
-unfoldable pub passedOf : State → Bool → Transfer → State
-passedOf s motor transfer = stateOf (s .disc) (s .protected) motor (s .«power_on») (s .change) noSense (closedAtZero transfer)
-
--- a feed or a pull: nothing but the transfer changes
+-- a feed or a pull that moves bytes: nothing but the transfer changes
 unfoldable pub movedOf : State → Transfer → State
-movedOf s transfer = withTransfer s (s .sense) (closedAtZero transfer)
+movedOf s transfer = stateOf (s .media) (s .motor) (s .host) (closedAtZero transfer)

@@ -1,7 +1,7 @@
 // What the drive remembers, and what each kind of call makes of it.
-ghost use mathlib.Core.Path.{_≡_};
-ghost use Rattle.state.specs.Senses.{senseOf};
-ghost use Rattle.state.specs.States.{powerOn, withTransfer, leftOf, closedAtZero, insertedOf, senseAfter, ejectedOf, failedOf, passedOf, movedOf};
+ghost use Rattle.ground.specs.Kit.{_≡_};
+ghost use Rattle.state.specs.Senses.{sameB, namedB};
+ghost use Rattle.state.specs.States.{powerOn, told, leftOf, isOpenB, closedAtZero, insertedOf, senseAfter, ejectedOf, obeyedOf, movedOf};
 use disc::BytePlace;
 
 // Key, additional code, qualifier.
@@ -27,25 +27,22 @@ pub const OUT_OF_RANGE: Sense = Sense(0x05, 0x21, 0x00);
 
 pub const PROTECTED: Sense = Sense(0x07, 0x27, 0x00);
 
-pub enum Attention {
-    PowerOn,
-    Change,
+// The disc that is in, 0 for none, and its protection.
+pub struct Media {
+    pub disc: u8,
+    pub protected: bool,
 }
 
-pub enum Fault {
-    UnknownCode,
-    OtherUnit,
-    NoDisc,
-    BadField,
-    NotSaved,
-    OutOfRange,
-    Protected,
-}
+const NO_MEDIA: Media = Media {
+    disc: 0,
+    protected: false,
+};
 
-// Why a command fails: an attention was pending, or the packet or the disc is at fault.
-pub enum Failure {
-    Pending(Attention),
-    Found(Fault),
+// What is remembered for the host: the attentions that it has not been told of, and its sense.
+pub struct Host {
+    pub power: bool,
+    pub change: bool,
+    pub sense: Sense,
 }
 
 // An answer: `at` counts in the block buffer.
@@ -68,63 +65,59 @@ pub enum Transfer {
 }
 
 pub struct State {
-    pub disc: u8,
-    pub protected: bool,
+    pub media: Media,
     pub motor: bool,
-    pub power_on: bool,
-    pub change: bool,
-    pub sense: Sense,
+    pub host: Host,
     pub transfer: Transfer,
 }
 
-// The triple of a failure.
-pub fn sense_of(failure: Failure) -> Sense
-    ensures { λ r. ⌜ r ≡ senseOf failure ⌝ }
+fn same(a: Sense, b: Sense) -> bool
+    ensures { λ r. ⌜ r ≡ sameB a b ⌝ }
 {
-    match failure {
-        Failure::Pending(attention) => match attention {
-            Attention::PowerOn => POWER_ON,
-            Attention::Change => CHANGE,
-        },
-        Failure::Found(fault) => match fault {
-            Fault::UnknownCode => UNKNOWN_CODE,
-            Fault::OtherUnit => OTHER_UNIT,
-            Fault::NoDisc => NO_DISC,
-            Fault::BadField => BAD_FIELD,
-            Fault::NotSaved => NOT_SAVED,
-            Fault::OutOfRange => OUT_OF_RANGE,
-            Fault::Protected => PROTECTED,
-        },
-    }
+    (a.0 == b.0) & (a.1 == b.1) & (a.2 == b.2)
+}
+
+// Whether a triple is one of those above.
+pub fn named(sense: Sense) -> bool
+    ensures { λ r. ⌜ r ≡ namedB sense ⌝ }
+{
+    same(sense, NO_SENSE)
+        | same(sense, UNKNOWN_CODE)
+        | same(sense, OTHER_UNIT)
+        | same(sense, POWER_ON)
+        | same(sense, CHANGE)
+        | same(sense, NO_DISC)
+        | same(sense, BAD_FIELD)
+        | same(sense, NOT_SAVED)
+        | same(sense, OUT_OF_RANGE)
+        | same(sense, PROTECTED)
 }
 
 pub fn power_on() -> State
     ensures { λ r. ⌜ r ≡ powerOn ⌝ }
 {
+    let media = NO_MEDIA;
     let sense = NO_SENSE;
     State {
-        disc: 0,
-        protected: false,
+        media: media,
         motor: false,
-        power_on: true,
-        change: false,
-        sense: sense,
+        host: Host {
+            power: true,
+            change: false,
+            sense: sense,
+        },
         transfer: Transfer::Closed,
     }
 }
 
-// The same but for sense and transfer.
-fn with_transfer(state: State, sense: Sense, transfer: Transfer) -> State
-    ensures { λ r. ⌜ r ≡ withTransfer state sense transfer ⌝ }
+// The host is told a triple: it is its sense, and the attention that it reports is no longer pending.
+fn tell(host: Host, sense: Sense) -> Host
+    ensures { λ r. ⌜ r ≡ told host sense ⌝ }
 {
-    State {
-        disc: state.disc,
-        protected: state.protected,
-        motor: state.motor,
-        power_on: state.power_on,
-        change: state.change,
+    Host {
+        power: !same(sense, POWER_ON) & host.power,
+        change: !same(sense, CHANGE) & host.change,
         sense: sense,
-        transfer: transfer,
     }
 }
 
@@ -152,71 +145,75 @@ fn closed_at_zero(transfer: Transfer) -> Transfer
 pub fn inserted(state: State, number: u8, protected: bool) -> State
     ensures { λ r. ⌜ r ≡ insertedOf state number protected ⌝ }
 {
+    let media = Media {
+        disc: number,
+        protected: protected,
+    };
     let mut next = state;
-    next.disc = number;
-    next.protected = protected;
-    next.change = true;
+    next.media = media;
+    next.host.change = true;
     next
+}
+
+fn is_open(transfer: Transfer) -> bool
+    ensures { λ r. ⌜ r ≡ isOpenB transfer ⌝ }
+{
+    match transfer {
+        Transfer::Closed => false,
+        Transfer::Answer(_) => true,
+        Transfer::Read(_) => true,
+        Transfer::Write(_) => true,
+    }
 }
 
 // The sense after an ejection: a transfer that it breaks off, of any kind, leaves 'no disc'.
 fn sense_after(sense: Sense, transfer: Transfer) -> Sense
     ensures { λ r. ⌜ r ≡ senseAfter sense transfer ⌝ }
 {
-    match transfer {
-        Transfer::Closed => sense,
-        _ => NO_DISC,
-    }
+    if is_open(transfer) { NO_DISC } else { sense }
 }
 
 // After an accepted ejection.
 pub fn ejected(state: State) -> State
     ensures { λ r. ⌜ r ≡ ejectedOf state ⌝ }
 {
-    let sense = state.sense;
+    let media = NO_MEDIA;
+    let mut host = state.host;
+    let sense = host.sense;
     let transfer = state.transfer;
-    let after = sense_after(sense, transfer);
-    let mut next = with_transfer(state, after, Transfer::Closed);
-    next.disc = 0;
-    next.protected = false;
-    next
-}
-
-// After a failed command: its sense, the one flag that it reports cleared, nothing open.
-pub fn failed(state: State, failure: Failure) -> State
-    ensures { λ r. ⌜ r ≡ failedOf state failure ⌝ }
-{
-    let sense = sense_of(failure);
-    let mut next = with_transfer(state, sense, Transfer::Closed);
-    match failure {
-        Failure::Pending(attention) => match attention {
-            Attention::PowerOn => {
-                next.power_on = false;
-                next
-            }
-            Attention::Change => {
-                next.change = false;
-                next
-            }
-        },
-        Failure::Found(_) => next,
+    host.sense = sense_after(sense, transfer);
+    State {
+        media: media,
+        motor: state.motor,
+        host: host,
+        transfer: Transfer::Closed,
     }
 }
 
-// After a passed command: no sense, its motor flag and its transfer.
-pub fn passed(state: State, motor: bool, transfer: Transfer) -> State
-    ensures { λ r. ⌜ r ≡ passedOf state motor transfer ⌝ }
+// After a command: the triple that it answers, its motor flag and its transfer.
+pub fn obeyed(state: State, sense: Sense, motor: bool, transfer: Transfer) -> State
+    ensures { λ r. ⌜ r ≡ obeyedOf state sense motor transfer ⌝ }
 {
-    let sense = NO_SENSE;
-    let mut next = with_transfer(state, sense, closed_at_zero(transfer));
-    next.motor = motor;
-    next
+    let media = state.media;
+    let host = state.host;
+    State {
+        media: media,
+        motor: motor,
+        host: tell(host, sense),
+        transfer: closed_at_zero(transfer),
+    }
 }
 
 // After bytes have moved: the same but for the transfer.
 pub fn moved(state: State, transfer: Transfer) -> State
     ensures { λ r. ⌜ r ≡ movedOf state transfer ⌝ }
 {
-    let sense = state.sense;
-    with_transfer(state, sense, closed_at_zero(transfer))
+    let media = state.media;
+    let host = state.host;
+    State {
+        media: media,
+        motor: state.motor,
+        host: host,
+        transfer: closed_at_zero(transfer),
+    }
 }

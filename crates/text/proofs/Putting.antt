@@ -1,60 +1,46 @@
 -- Putting goes on byte by byte. Assumes nothing.
-use mathlib.Core.Path.{_≡_, refl, sym, ap, _∙_}
-use mathlib.Core.Bool.{Bool, true, false, cond}
-use mathlib.Core.List.{List, [], _∷_, _++_, append-nil, append-assoc}
-use Prim.Native.Nat.{ℕ, suc, _+_, _<_, _≤_}
-use native.Mathlib.Omega.{arith}
-use native.Mathlib.Numerals.{add-one}
-use borrow.Author.Tests.{lt-ltb, ltb-true}
-use lib.Dec.{ltb}
-use lib.ListN.{length, drop, getD, length-append, set, length-set, drop-of-length-le}
-use lib.Seq.{drop-cons, set-append-seam}
+use Rattle.ground.specs.Kit.{_≡_, refl, sym, ap, _∙_, Bool, true, false, cond, List, [], _∷_, _++_, ℕ, suc, _+_, _<_, _≤_, arith, add-zero, zero-add, add-one, lt-ltb, ltb-true, ltb, length, drop, getD, set, length-set, drop-of-length-le, drop-cons, sets, sets-eq}
 use Rattle.text.specs.Ink.{Ink, ink, putByte, putAll, FitsWhole, StaysInLine, OneText}
 
-put-append : (i : Ink) (xs ys : List ℕ) → putAll i (xs ++ ys) ≡ putAll (putAll i xs) ys
+pub put-append : (i : Ink) (xs ys : List ℕ) → putAll i (xs ++ ys) ≡ putAll (putAll i xs) ys
 unfolding putAll
 put-append i [] ys = refl
 put-append i (x ∷ xs) ys = put-append (putByte i x) xs ys
 
--- bytes that are said one after the other: one of them, and then the rest
-module _ (say : List ℕ → List ℕ) (one : ℕ → List ℕ) (each : (b : ℕ) (bs : List ℕ) → say (b ∷ bs) ≡ one b ++ say bs) where
-  pub one-said : (i : Ink) (bytes : List ℕ) (j : ℕ) → j < length bytes
-      → putAll (putAll i (one (getD bytes j 0))) (say (drop (j + 1) bytes)) ≡ putAll i (say (drop j bytes))
-  one-said i bytes j h =
-      rw (drop-cons bytes j 0 h, add-one j, each (getD bytes j 0) (drop (suc j) bytes))
-      (sym (put-append i (one (getD bytes j 0)) (say (drop (suc j) bytes))))
+-- of what is said byte after byte, the first j bytes are put: the line keeps its length, and what is left brings the whole
+abbrev pub PutSoFar : (List ℕ → List ℕ) → List ℕ → Ink → ℕ → Ink → Type 0
+PutSoFar say bytes start j i = (length (i .line) ≡ length (start .line)) × (putAll i (say (drop j bytes)) ≡ putAll start (say bytes))
 
--- and none are left
-pub all-said : (say : List ℕ → List ℕ) → say [] ≡ [] → (i : Ink) (bytes : List ℕ) (j : ℕ) → length bytes ≤ j → i ≡ putAll i (say (drop j bytes))
-unfolding putAll
-all-said say none i bytes j h = rw (drop-of-length-le bytes h, none)
+module _ (say : List ℕ → List ℕ) (bytes : List ℕ) (start : Ink) (j : ℕ) (i : Ink) (so-far : PutSoFar say bytes start j i) where
+  pub one-more : (one : ℕ → List ℕ) → ((b : ℕ) (bs : List ℕ) → say (b ∷ bs) ≡ one b ++ say bs) → j < length bytes → (k : Ink)
+      → length (k .line) ≡ length (i .line) → k ≡ putAll i (one (getD bytes j 0)) → PutSoFar say bytes start (j + 1) k
+  one-more one each h k same puts =
+      let b = getD bytes j 0 in
+      let rest = say (drop (suc j) bytes) in
+      let all = rw (drop-cons bytes j 0 h, each b (drop (suc j) bytes)) at (so-far .1) in
+      (same ∙ so-far .0, rw (puts, add-one j) (sym (put-append i (one b) rest) ∙ all))
+
+  pub no-more : say [] ≡ [] → length bytes ≤ j → i ≡ putAll start (say bytes)
+  unfolding putAll
+  no-more none h = rw (drop-of-length-le bytes h, none) at (so-far .1)
 
 -- a text after another
 pub put-then : (i : Ink) (xs ys : List ℕ) (j k : Ink) → j ≡ putAll i xs → k ≡ putAll j ys → k ≡ putAll i (xs ++ ys)
 put-then i xs ys j k e f = f ∙ ap (λ (m : Ink). putAll m ys) e ∙ sym (put-append i xs ys)
 
--- one byte for another that is equal
-pub put-alike : (i : Ink) (a b : ℕ) → a ≡ b → putAll i (a ∷ []) ≡ putAll i (b ∷ [])
-put-alike i a b e = ap (λ (x : ℕ). putAll i (x ∷ [])) e
-
--- one byte after what is done, over the rest of the line
-one-on : (done : List ℕ) (x y : ℕ) (ys : List ℕ)
-    → putByte (ink (length done) (done ++ y ∷ ys)) x ≡ ink (length (done ++ x ∷ [])) ((done ++ x ∷ []) ++ ys)
-one-on done x y ys =
-    rw (length-append done (y ∷ ys), lt-ltb (length done) (length done + suc (length ys)) (omega arith), set-append-seam done y ys x, length-append done (x ∷ []), append-assoc done (x ∷ []) ys)
-
-puts-on : (done rest text : List ℕ) → length text ≤ length rest
-    → putAll (ink (length done) (done ++ rest)) text ≡ ink (length done + length text) (done ++ text ++ drop (length text) rest)
+-- where there is room, each byte is stored
+puts : (text : List ℕ) (at : ℕ) (line : List ℕ) → at + length text ≤ length line
+    → putAll (ink at line) text ≡ ink (at + length text) (sets line at text)
 unfolding putAll
-puts-on done rest [] h = rw (append-nil done) (ap (λ (n : ℕ). ink n (done ++ rest)) (omega arith))
-puts-on done [] (x ∷ xs) h = absurd (omega (arith, h))
-puts-on done (y ∷ ys) (x ∷ xs) h =
-    rw (one-on done x y ys)
-    (puts-on (done ++ x ∷ []) ys xs (omega (arith, h))
-    ∙ rw (append-assoc done (x ∷ []) xs) (ap (λ (n : ℕ). ink n (done ++ x ∷ xs ++ drop (length xs) ys)) (rw (length-append done (x ∷ [])) (omega arith))))
+puts [] at line h = rw (add-zero at)
+puts (x ∷ xs) at line h =
+    let next : at + suc (length xs) ≡ suc at + length xs = omega arith in
+    rw (lt-ltb at (length line) (omega arith), add-one at, next) (puts xs (suc at) (set line at x) (rw (length-set line at x) (omega arith)))
 
 pub fits-whole : FitsWhole
-fits-whole line text h = puts-on [] line text h ∙ ap (λ (n : ℕ). ink n (text ++ drop (length text) line)) (omega arith)
+fits-whole line text h =
+    let room : 0 + length text ≤ length line = omega arith in
+    rw (puts text 0 line room, sets-eq text line 0 room, zero-add (length text))
 
 one-stays : (i : Ink) (b : ℕ) → i .at ≤ length (i .line)
     → (putByte i b .at ≤ length (i .line)) × (length (putByte i b .line) ≡ length (i .line))

@@ -1,12 +1,5 @@
 -- A number's digits, read back, are the number. Assumes nothing.
-use mathlib.Core.Path.{_≡_, refl, ap, _∙_}
-use mathlib.Core.Bool.{Bool, true, false, cond}
-use mathlib.Core.List.{List, [], _∷_}
-use Prim.Native.Nat.{ℕ, zero, suc, _+_, _-_, _/_, _^_, _<_, _≤_}
-use native.Mathlib.Omega.{arith, pow-step}
-use borrow.Author.Tests.{ltb-false}
-use lib.Dec.{ltb}
-use lib.ListN.{length}
+use Rattle.ground.specs.Kit.{_≡_, refl, ap, _∙_, Bool, true, false, cond, List, [], _∷_, ℕ, zero, suc, _+_, _/_, _^_, _<_, _≤_, arith, pow-step, ltb-false, ltb, length}
 use Rattle.text.specs.Numbers.{lastDigit, digitsBefore, readAfter, ReadsBack, FewDigits}
 
 digits-read : (k n : ℕ) (text : List ℕ) → n < 10 ^ suc k → readAfter 0 (digitsBefore k n text) ≡ readAfter n text

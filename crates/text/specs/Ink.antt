@@ -1,10 +1,5 @@
 -- Text put into a line of a fixed length, byte after byte.
-use mathlib.Core.Path.{_≡_}
-use mathlib.Core.Bool.{cond}
-use mathlib.Core.List.{List, [], _∷_, _++_}
-use Prim.Native.Nat.{ℕ, _+_, _≤_}
-use lib.Dec.{ltb}
-use lib.ListN.{length, set, drop}
+use Rattle.ground.specs.Kit.{_≡_, cond, List, [], _∷_, _++_, ℕ, _+_, _≤_, ltb, length, set, drop}
 
 -- the place of the next byte, and the line's bytes
 pub record Ink : Type 0 where

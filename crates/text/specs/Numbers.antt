@@ -1,17 +1,12 @@
 -- Numbers as text, in ASCII: "lower-case hex, the other numbers decimal".
-use mathlib.Core.Path.{_≡_}
-use mathlib.Core.Bool.{cond}
-use mathlib.Core.List.{List, [], _∷_, _++_}
-use Prim.Native.Nat.{ℕ, zero, suc, _+_, _-_, _*_, _/_, _%_, _^_, _<_, _≤_}
-use lib.Dec.{ltb}
-use lib.ListN.{length}
+use Rattle.ground.specs.Kit.{_≡_, cond, List, [], _∷_, _++_, ℕ, zero, suc, _+_, _-_, _*_, _/_, _%_, _^_, _<_, _≤_, ltb, length}
 
 -- `0` to `9`, then `a` to `f`
 unfoldable pub glyphOf : ℕ → ℕ
 glyphOf digit = cond (ltb digit 10) (48 + digit) (87 + digit)
 
 -- a byte as two digits
-abbrev pub hexOf : ℕ → List ℕ
+unfoldable pub hexOf : ℕ → List ℕ
 hexOf b = glyphOf (b / 16) ∷ glyphOf (b % 16) ∷ []
 
 abbrev pub hexesOf : List ℕ → List ℕ

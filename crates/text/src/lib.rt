@@ -1,7 +1,5 @@
 // Text composed in a lent line: each function goes on at a place and answers the place after what it put.
-ghost use mathlib.Core.Path.{_≡_};
-ghost use Prim.Native.Nat.{_<_};
-ghost use mathlib.Core.List.{_∷_, []};
+ghost use Rattle.ground.specs.Kit.{_≡_, _<_, _∷_, []};
 ghost use Rattle.text.specs.Numbers.{glyphOf, hexOf, hexesOf, decimalOf};
 ghost use Rattle.text.specs.Ink.{ink, putAll};
 

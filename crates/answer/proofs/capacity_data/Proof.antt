@@ -1,4 +1,4 @@
-use borrow.Author.Needs.{needs}
+use Rattle.ground.specs.Kit.{needs}
 use Rattle.answer.specs.Answers.{capacityData}
 use Rattle.answer.proofs.capacity_data.Statement.{statement}
 use Rattle.answer.proofs.capacity_data.Tie as tie

@@ -1,5 +1,4 @@
-use borrow.Author.Tests.{eq-eqb, ne-eqb}
-use borrow.Author.Needs.{needs}
+use Rattle.ground.specs.Kit.{eq-eqb, ne-eqb, needs}
 use Rattle.answer.specs.Answers.{capacitiesData}
 use Rattle.answer.proofs.put_capacities.Statement.{statement}
 use Rattle.answer.proofs.put_capacities.Tie as tie

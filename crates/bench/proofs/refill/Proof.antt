@@ -1,10 +1,12 @@
-use borrow.Author.Needs.{needs}
-use borrow.Author.Tests.{not-false}
+use Rattle.ground.specs.Kit.{needs, not-false}
 use Rattle.bench.proofs.refill.Statement.{statement}
 use Rattle.bench.proofs.refill.Tie as tie
 
 few : tie.Need-keep-requires
-few c _ = (c .before .before .before .before .before .pre .0, c .before .before .before .before .before .pre .1 (not-false _ (c .before .before .if1 .left)))
+few c _ =
+    let test = c .before .before in
+    let start = test .before .before .before in
+    (start .pre .0, start .pre .1 (not-false _ (test .if1 .left)))
 
 pub refill-spec : {M : Type 1} → statement M
 refill-spec =

@@ -1,4 +1,4 @@
-use Rattle.checks.specs.Checks.{checksOf}
+use Rattle.checks.specs.Verdicts.{checksOf}
 use Rattle.checks.proofs.checked.Statement.{statement}
 use Rattle.checks.proofs.checked.Tie as tie
 
@@ -8,7 +8,7 @@ returns c =
     let control = c .before .before .before .before in
     let value = control .before in
     let mask = value .before in
-    let unit = mask .before .before .before .before .before .before .before in
+    let unit = mask .before .before .before .before .before .before .before .before in
     let past = unit .before in
     rw (
       c .first-failure .ensures,

@@ -1,14 +1,8 @@
-use mathlib.Core.Path.{_≡_, refl, sym, _∙_}
-use mathlib.Core.Bool.{false}
-use Prim.Native.Nat.{_≤_, _-_}
-use native.Mathlib.Omega.{arith}
-use lib.ListN.{drop}
-use borrow.Author.Needs.{needs}
-use Rattle.state.specs.declared.Attention.the-variants.{PowerOn}
-use Rattle.state.specs.declared.Failure.the-variants.{Pending}
-use Rattle.packet.proofs.First.{fails-here, holds-here, none-fails}
-use Rattle.checks.specs.declared.Check.{Check}
-use Rattle.checks.specs.Checks.{failsB, failing, firstOf}
+use Rattle.ground.specs.Kit.{_≡_, refl, sym, _∙_, false, _≤_, _-_, arith, drop, needs}
+use Rattle.checks.specs.declared.{Check.Check}
+use Rattle.state.specs.Senses.{noSense}
+use Rattle.ground.proofs.First.{fails-here, holds-here, none-fails}
+use Rattle.checks.specs.Verdicts.{failsB, failing, firstOf}
 use Rattle.checks.specs.declared.Verdict.the-variants.{Passes}
 use Rattle.checks.proofs.first_failure.Statement.{statement}
 use Rattle.checks.proofs.first_failure.Tie as tie
@@ -21,17 +15,17 @@ abbrev μ-loop : tie.MeasureT-loop
 
 -- what a read of the array past its end would be
 abbrev past : Check
-past = record { 0 = false; 1 = Pending PowerOn }
+past = record { 0 = false; 1 = noSense }
 
 returns : tie.Need-returns Inv-loop μ-loop
 returns c =
-    let at-loop = c .before .before .before in
+    let at-loop = c .before .before .before .before in
     let x = at-loop .before .args in
     sym (at-loop .loop .inv .1 ∙ fails-here failsB failing (x .t1) (Passes (x .rule)) (at-loop .loop .i) past (search needs) (c .if1 .taken))
 
 loop-again : tie.Need-loop-again Inv-loop μ-loop
 loop-again c =
-    let at-loop = c .before .before .before in
+    let at-loop = c .before .before .before .before in
     let x = at-loop .before .args in
     (omega arith, at-loop .loop .inv .1 ∙ holds-here failsB failing (x .t1) (Passes (x .rule)) (at-loop .loop .i) past (search needs) (c .if1 .left))
 

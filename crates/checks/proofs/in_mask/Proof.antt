@@ -1,10 +1,5 @@
-use mathlib.Core.Path.{_≡_, refl, sym}
-use mathlib.Core.Bool.{true}
-use Prim.Native.Nat.{_≤_, _-_}
-use native.Mathlib.Omega.{arith}
-use borrow.Author.Needs.{needs}
-use borrow.Author.Tests.{eq-eqb, ne-eqb}
-use Rattle.checks.specs.Checks.{bitsB, belowB, inMaskB}
+use Rattle.ground.specs.Kit.{_≡_, refl, sym, true, _≤_, _-_, arith, needs, eq-eqb, ne-eqb}
+use Rattle.checks.specs.Verdicts.{bitsB, belowB, inMaskB}
 use Rattle.checks.proofs.Below.{one-more, one-fails}
 use Rattle.checks.proofs.in_mask.Statement.{statement}
 use Rattle.checks.proofs.in_mask.Tie as tie

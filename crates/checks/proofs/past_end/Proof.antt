@@ -1,4 +1,4 @@
-use borrow.Author.Needs.{needs}
+use Rattle.ground.specs.Kit.{needs}
 use Rattle.checks.proofs.past_end.Statement.{statement}
 use Rattle.checks.proofs.past_end.Tie as tie
 

@@ -1,9 +1,6 @@
-use mathlib.Core.Path.{_≡_, ap}
-use mathlib.Core.Bool.{true}
-use borrow.Author.Needs.{needs}
-use borrow.Author.Tests.{eq-eqb, ne-eqb}
-use Rattle.house.specs.World.{World, world}
-use Rattle.commands.specs.Commands.{After, accepted, obeyedOf, commandOf}
+use Rattle.ground.specs.Kit.{_≡_, ap, true, [], needs, eq-eqb, ne-eqb}
+use Rattle.house.specs.World.{World, world, reply}
+use Rattle.commands.specs.Obeying.{replyTo, commandOf}
 use Rattle.commands.proofs.command.Statement.{statement}
 use Rattle.commands.proofs.command.Tie as tie
 
@@ -11,32 +8,31 @@ returns : tie.Need-returns
 unfolding commandOf
 returns c = rw (← c .before .before .command-house .ensures, ← c .before .number-of .ensures, ne-eqb _ _ (c .if1 .taken))
 
-abbrev lent : tie.After-command-house → World
-lent h = let x = h .before .before .before .before .args in world (x .state) (x .buffer .now) (x .disc .now)
+abbrev entered : tie.Else1 → World
+entered c = let x = c .before .before .before .before .before .before .args in world (x .state) (x .buffer .now) (x .disc .now)
 
 -- past the house tests the verdict decides
 judged : (j : tie.After-judge)
-    → commandOf (lent (j .before .before .before)) (j .before .before .before .before .before .before .before .args .packet .now)
-    ≡ obeyedOf (j .judge .result) (lent (j .before .before .before)) (j .before .before .before .before .before .before .before .args .packet .now)
+    → let past = j .before .before .before in
+    let packet = past .before .before .before .before .before .before .args .packet .now in
+    commandOf (entered past) packet ≡ replyTo (j .judge .result) (entered past) packet
 unfolding commandOf
 judged j =
-    rw (
-      ← j .before .before .before .command-house .ensures,
-      ← j .before .before .number-of .ensures,
-      eq-eqb _ _ (j .before .if1 .left),
-      ← j .judge .ensures,
-    )
+    let past = j .before .before .before in
+    rw (← past .before .before .command-house .ensures, ← past .before .number-of .ensures, eq-eqb _ _ (past .if1 .left), ← j .judge .ensures)
 
 returns-2 : tie.Need-returns-2
-returns-2 c = rw (judged (c .before .before .before .before), c .before .before .verdict .given .1, c .failed .ensures)
+returns-2 c =
+    let verdict = c .before .before in
+    rw (judged (verdict .before .before), verdict .verdict .given .1, c .obeyed .ensures)
 
 returns-3 : tie.Need-returns-3
 returns-3 c =
-    let performed = c .before .before in
-    let verdict = performed .before .before .before in
+    let call = c .before .before in
+    let verdict = call .before .before .before in
     let judge = verdict .before .before in
     rw (judged judge, verdict .verdict2 .given .1)
-    (ap (λ (a : After). accepted true a (lent (judge .before .before .before) .disc)) (performed .performed .ensures))
+    (ap (λ (w : World). reply 0 true 0 [] w) (call .performed .ensures (entered (judge .before .before .before) .disc)))
 
 pub command-spec : {M : Type 1} → statement M
 command-spec =

@@ -1,4 +1,4 @@
-use mathlib.Core.Path.{_∙_}
+use Rattle.ground.specs.Kit.{_∙_}
 use Rattle.commands.specs.Events.{ejectOf}
 use Rattle.commands.proofs.eject.Statement.{statement}
 use Rattle.commands.proofs.eject.Tie as tie
@@ -11,5 +11,4 @@ eject-spec =
     (λ _ _. tt)
     (λ _ _. tt)
     (λ _ _. tt)
-    (λ c buffer before.
-    c .unless-refused .ensures buffer before _ ∙ rw (c .before .ejected .ensures, c .before .before .eject-house .ensures)))
+    (λ c. c .unless-refused .ensures ∙ rw (c .before .ejected .ensures, c .before .before .eject-house .ensures)))

@@ -1,4 +1,4 @@
-use mathlib.Core.Path.{_∙_}
+use Rattle.ground.specs.Kit.{_∙_}
 use Rattle.commands.specs.Events.{insertOf}
 use Rattle.commands.proofs.insert.Statement.{statement}
 use Rattle.commands.proofs.insert.Tie as tie
@@ -11,5 +11,4 @@ insert-spec =
     (λ _ _. tt)
     (λ _ _. tt)
     (λ _ _. tt)
-    (λ c buffer before.
-    c .unless-refused .ensures buffer before _ ∙ rw (c .before .inserted .ensures, c .before .before .insert-house .ensures)))
+    (λ c. c .unless-refused .ensures ∙ rw (c .before .inserted .ensures, c .before .before .insert-house .ensures)))

@@ -1,42 +1,42 @@
-use mathlib.Core.Path.{_≡_, ap}
-use borrow.Author.Needs.{needs}
+use Rattle.ground.specs.Kit.{_≡_, ap, needs}
 use Rattle.packet.specs.Fields.{addressOf, lengthOf}
-use Rattle.commands.specs.Commands.{spanOf, answeredOf, performedOf}
+use Rattle.house.specs.World.{world}
+use Rattle.commands.specs.Obeying.{spanOf, answered, performedOf}
 use Rattle.commands.proofs.performed.Statement.{statement}
 use Rattle.commands.proofs.performed.Tie as tie
 
 returns : tie.Need-returns
 unfolding performedOf
-returns c = rw (c .before .enum-told .given .1, c .passed .ensures)
+returns c disc = rw (c .before .enum-told .given .1, c .passed .ensures)
 
 returns-2 : tie.Need-returns-2
 unfolding performedOf
-returns-2 c = rw (c .before .before .enum-told2 .given .1, c .passed2 .ensures, c .before .byte .ensures)
+returns-2 c disc = rw (c .before .before .enum-told2 .given .1, c .passed2 .ensures, c .before .byte .ensures)
 
 returns-3 : tie.Need-returns-3
 unfolding performedOf
-returns-3 c =
+returns-3 c disc =
     let give = c .before .before .before in
-    let byte = give .before .before in
-    let routine = byte .before .before in
+    let routine = give .before .before .before in
     let length = routine .before .before .before .before in
-    rw (routine .routine .given .1, c .passed3 .ensures, ← byte .byte2 .ensures, ← length .length .ensures)
-    (ap (answeredOf (length .before .before .before .args .state)) (give .give .ensures))
+    let x = length .before .before .before .before .before .args in
+    rw (routine .routine .given .1, c .passed3 .ensures, ← length .length .ensures)
+    (ap (answered (world (x .state) (x .buffer .now) disc)) (give .give .ensures))
 
 spanned : (c : tie.After-span)
-    → let x = c .before .before .before .before .before .args in
-    c .span .result ≡ spanOf (x .state .disc) (addressOf (x .packet .now)) (lengthOf (x .rule .length) (x .packet .now))
+    → let x = c .before .before .before .before .before .before .before .args in
+    c .span .result ≡ spanOf (x .state .media .disc) (addressOf (x .packet .now)) (lengthOf (x .rule .length) (x .packet .now))
 spanned c = rw (c .span .ensures, c .before .address .ensures, c .before .before .length .ensures)
 
 returns-4 : tie.Need-returns-4
 unfolding performedOf
-returns-4 c =
+returns-4 c disc =
     let told = c .before in
     rw (told .enum-told3 .given .1, c .passed4 .ensures, spanned (told .before .before))
 
 returns-5 : tie.Need-returns-5
 unfolding performedOf
-returns-5 c =
+returns-5 c disc =
     let told = c .before in
     rw (told .enum-told4 .given .1, c .passed5 .ensures, spanned (told .before .before))
 
@@ -53,7 +53,6 @@ performed-spec =
     (λ _ _. tt)
     (λ _ _. tt)
     (λ c. search needs)
-    (λ _ _. tt)
     (λ c. search needs)
     (λ _ _. tt)
     (λ _ _. tt)

@@ -1,4 +1,4 @@
-use Rattle.commands.specs.Commands.{spanOf}
+use Rattle.commands.specs.Obeying.{spanOf}
 use Rattle.commands.proofs.span.Statement.{statement}
 use Rattle.commands.proofs.span.Tie as tie
 

@@ -1,4 +1,4 @@
-use borrow.Author.Needs.{needs}
+use Rattle.ground.specs.Kit.{needs}
 use Rattle.disc.specs.Formats.{blockBytes}
 use Rattle.disc.proofs.block_bytes.Statement.{statement}
 use Rattle.disc.proofs.block_bytes.Tie as tie

@@ -1,6 +1,4 @@
-use mathlib.Core.Path.{sym}
-use lib.ListN.{List·getD-eq-default}
-use borrow.Author.Needs.{needs}
+use Rattle.ground.specs.Kit.{sym, List·getD-eq-default, needs}
 use Rattle.disc.specs.Formats.{noFormat, formats, formatOf}
 use Rattle.disc.proofs.format_of.Statement.{statement}
 use Rattle.disc.proofs.format_of.Tie as tie

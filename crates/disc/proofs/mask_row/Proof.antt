@@ -1,9 +1,5 @@
-use mathlib.Core.Path.{sym}
-use lib.ListN.{List·getD-eq-default, replicate}
-use mathlib.Core.List.{[]}
-use native.Mathlib.Omega.{arith}
-use borrow.Author.Needs.{needs}
-use Rattle.disc.proofs.Table.{in-table}
+use Rattle.ground.specs.Kit.{sym, List·getD-eq-default, replicate, [], arith, needs}
+use Rattle.ground.proofs.Tables.{in-table}
 use Rattle.disc.specs.Masks.{masks, maskRow}
 use Rattle.disc.proofs.mask_row.Statement.{statement}
 use Rattle.disc.proofs.mask_row.Tie as tie

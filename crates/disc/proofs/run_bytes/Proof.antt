@@ -1,10 +1,8 @@
-use native.Mathlib.Nat.{mul-le-mul}
-use native.Mathlib.Omega.{arith}
+use Rattle.ground.specs.Kit.{mul-le-mul, arith, _≤_}
 use Rattle.disc.specs.Formats.{bufferBytes, runBytes}
-use Rattle.disc.proofs.Table.{block-fits}
+use Rattle.disc.proofs.Discs.{block-fits}
 use Rattle.disc.proofs.run_bytes.Statement.{statement}
 use Rattle.disc.proofs.run_bytes.Tie as tie
-use Prim.Native.Nat.{_≤_}
 
 mul-result : tie.Need-mul-result
 mul-result c =

@@ -1,4 +1,5 @@
-use Rattle.house.specs.House.{ejectTests}
+use Rattle.ground.specs.Kit.{ne-eqb}
+use Rattle.house.specs.Refusals.{ejectTests}
 use Rattle.house.proofs.eject_house.Statement.{statement}
 use Rattle.house.proofs.eject_house.Tie as tie
 
@@ -8,5 +9,6 @@ eject-house-spec =
     tie.close
     (tie.spec
     (λ _ _. tt)
-    (λ _ _. tt)
-    (λ c. rw (c .first-refusal .ensures, c .before .before .sound .ensures)))
+    (λ c. rw (← c .before .sound .ensures, c .if1 .taken))
+    (λ c. let test2 = c .before .before in rw (← test2 .before .sound .ensures, test2 .if1 .left, c .if2 .taken))
+    (λ c. let test2 = c .before .before in rw (← test2 .before .sound .ensures, test2 .if1 .left, ne-eqb _ _ (c .if2 .left))))

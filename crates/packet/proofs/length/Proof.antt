@@ -1,4 +1,4 @@
-use borrow.Author.Needs.{needs}
+use Rattle.ground.specs.Kit.{needs}
 use Rattle.packet.specs.Fields.{lengthOf}
 use Rattle.packet.proofs.length.Statement.{statement}
 use Rattle.packet.proofs.length.Tie as tie

@@ -1,6 +1,5 @@
-use mathlib.Core.Path.{refl, sym}
-use borrow.Author.Needs.{needs}
-use borrow.Author.Tests.{not-true, not-false}
+use Rattle.ground.specs.Kit.{refl, sym, needs, not-true, not-false}
+use Rattle.player.specs.Lines.{playedLine}
 use Rattle.player.proofs.Stepping.{waits, plays}
 use Rattle.player.proofs.step.Statement.{statement}
 use Rattle.player.proofs.step.Tie as tie
@@ -9,10 +8,13 @@ returns : tie.Need-returns
 returns c = sym (waits _ _ _ _ _ (rw (← c .before .enough .ensures) (not-true _ (c .if1 .taken))))
 
 returns-2 : tie.Need-returns-2
+unfolding playedLine
 returns-2 c =
-    let test = c .before .before .before .before .before .before .before .before .before .before .before .before .before .before .before .before in
-    plays _ _ _ _ _ _ _ _ (rw (← test .before .enough .ensures) (not-false _ (test .if1 .left))) (c .before .before .before .before .before .before .before .before .before .before .before .before .play .ensures)
-    (c .length-field .ensures) (c .before .before .before .before .put-line .ensures _ _)
+    let line = c .before .before .before .before in
+    let play = line .before .before .before .before .before .before .before .before in
+    let test = play .before .before .before .before in
+    plays _ _ _ _ _ _ _ _ (rw (← test .before .enough .ensures) (not-false _ (test .if1 .left))) (play .play .ensures) (c .length-field .ensures)
+    (line .put-line .ensures)
 
 pub step-spec : {M : Type 1} → statement M
 step-spec =

@@ -7,4 +7,4 @@ pull-spec =
     (tie.spec
     (λ _ _. tt)
     (λ _ _. tt)
-    (λ c. rw (c .if-good .ensures, c .before .field .ensures)))
+    (λ c. rw (c .if-good .ensures, c .before .little-of .ensures)))

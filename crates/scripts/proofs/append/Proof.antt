@@ -1,7 +1,4 @@
-use mathlib.Core.Path.{_≡_}
-use Prim.Native.Nat.{_-_}
-use borrow.Author.Needs.{needs}
-use lib.ListN.{length}
+use Rattle.ground.specs.Kit.{_≡_, _-_, needs, length}
 use Rattle.scripts.proofs.append.Statement.{statement}
 use Rattle.scripts.proofs.append.Tie as tie
 

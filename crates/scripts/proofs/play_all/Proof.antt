@@ -1,8 +1,4 @@
-use mathlib.Core.Path.{_≡_, sym}
-use Prim.Native.Nat.{_-_, _≤_}
-use borrow.Author.Needs.{needs}
-use lib.ListN.{length}
-use lib.Seq.{length-take-le}
+use Rattle.ground.specs.Kit.{_≡_, sym, _-_, _≤_, needs, length, length-take-le}
 use Rattle.scripts.proofs.play_all.Statement.{statement}
 use Rattle.scripts.proofs.play_all.Tie as tie
 

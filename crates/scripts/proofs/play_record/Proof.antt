@@ -1,6 +1,4 @@
-use mathlib.Core.Path.{sym, ap}
-use borrow.Author.Needs.{needs}
-use lib.Seq.{length-take-le}
+use Rattle.ground.specs.Kit.{sym, ap, needs, length-take-le}
 use Rattle.player.specs.Steps.{Stepped}
 use Rattle.player.proofs.Theorems.{ends-in-line}
 use Rattle.scripts.proofs.play_record.Statement.{statement}

@@ -1,6 +1,4 @@
-use mathlib.Core.Path.{sym}
-use borrow.Author.Needs.{needs}
-use lib.Seq.{length-take-le}
+use Rattle.ground.specs.Kit.{sym, needs, length-take-le}
 use Rattle.scripts.proofs.take_line.Statement.{statement}
 use Rattle.scripts.proofs.take_line.Tie as tie
 

@@ -1,11 +1,7 @@
-use Prim.Native.Nat.{_<_, _≤_}
-use native.Mathlib.Nat.{add-mod, mod-lt}
-use native.Mathlib.Omega.{arith}
-use borrow.Author.Needs.{needs}
-use borrow.Author.Tests.{eq-eqb, ne-eqb}
+use Rattle.ground.specs.Kit.{_<_, _≤_, add-mod, mod-lt, arith, needs, eq-eqb, ne-eqb}
 use Rattle.disc.specs.Formats.{bufferBytes}
-use Rattle.disc.proofs.Table.{block-fits}
-use Rattle.sound.specs.Sound.{endsOnBlockB}
+use Rattle.disc.proofs.Discs.{block-fits}
+use Rattle.sound.specs.Soundness.{endsOnBlockB}
 use Rattle.sound.proofs.ends_on_block.Statement.{statement}
 use Rattle.sound.proofs.ends_on_block.Tie as tie
 

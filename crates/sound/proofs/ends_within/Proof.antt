@@ -1,7 +1,4 @@
-use Prim.Native.Nat.{_+_}
-use mathlib.Core.Path.{sym}
-use native.Mathlib.Omega.{arith}
-use borrow.Author.Tests.{le-leb, lt-leb}
+use Rattle.ground.specs.Kit.{_+_, sym, arith, le-leb, lt-leb}
 use Rattle.sound.proofs.ends_within.Statement.{statement}
 use Rattle.sound.proofs.ends_within.Tie as tie
 

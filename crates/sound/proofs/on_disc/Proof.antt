@@ -1,4 +1,4 @@
-use Rattle.sound.specs.Sound.{onDiscB}
+use Rattle.sound.specs.Soundness.{onDiscB}
 use Rattle.sound.proofs.on_disc.Statement.{statement}
 use Rattle.sound.proofs.on_disc.Tie as tie
 

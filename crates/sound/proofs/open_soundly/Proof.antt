@@ -1,5 +1,5 @@
-use borrow.Author.Needs.{needs}
-use Rattle.sound.specs.Sound.{openSoundB}
+use Rattle.ground.specs.Kit.{needs}
+use Rattle.sound.specs.Soundness.{openSoundB}
 use Rattle.sound.proofs.open_soundly.Statement.{statement}
 use Rattle.sound.proofs.open_soundly.Tie as tie
 
@@ -17,7 +17,9 @@ returns-3 c = rw (c .before .before .transfer2 .given .1, c .on-disc .ensures)
 
 returns-4 : tie.Need-returns-4
 unfolding openSoundB
-returns-4 c = rw (c .before .before .before .transfer3 .given .1, c .ends-on-block .ensures, c .before .on-disc2 .ensures)
+returns-4 c =
+    let disc = c .before .before in
+    rw (disc .before .before .transfer3 .given .1, c .before .ends-on-block .ensures, disc .on-disc2 .ensures)
 
 pub open-soundly-spec : {M : Type 1} → statement M
 open-soundly-spec =

@@ -1,4 +1,4 @@
-use Rattle.sound.specs.Sound.{soundB}
+use Rattle.sound.specs.Soundness.{soundB}
 use Rattle.sound.proofs.sound.Statement.{statement}
 use Rattle.sound.proofs.sound.Tie as tie
 

@@ -1,4 +1,4 @@
-use borrow.Author.Tests.{eq-eqb, ne-eqb}
+use Rattle.ground.specs.Kit.{eq-eqb, ne-eqb}
 use Rattle.state.proofs.closed_at_zero.Statement.{statement}
 use Rattle.state.proofs.closed_at_zero.Tie as tie
 

@@ -4,4 +4,4 @@ use Rattle.state.proofs.moved.Tie as tie
 
 pub moved-spec : {M : Type 1} → statement M
 unfolding movedOf
-moved-spec = tie.close (tie.spec (λ _ _. tt) (λ _ _. tt) (λ c. rw (c .with-transfer .ensures, c .before .closed-at-zero .ensures)))
+moved-spec = tie.close (tie.spec (λ _ _. tt) (λ c. rw (c .closed-at-zero .ensures)))

@@ -1,17 +1,15 @@
-use mathlib.Core.Path.{_≡_, refl, _∙_}
-use mathlib.Core.List.{List, [], _∷_}
-use Prim.Native.Nat.{ℕ, _-_}
-use native.Mathlib.Omega.{arith}
-use borrow.Author.Needs.{needs}
-use lib.ListN.{length, drop}
-use Rattle.text.specs.Ink.{ink, putAll}
-use Rattle.text.proofs.Putting.{one-said, all-said}
+use Rattle.ground.specs.Kit.{refl, List, [], _∷_, ℕ, _-_, arith, needs, length}
+use Rattle.text.specs.Ink.{ink}
+use Rattle.text.proofs.Putting.{PutSoFar, one-more, no-more}
 use Rattle.text.proofs.put_all.Statement.{statement}
 use Rattle.text.proofs.put_all.Tie as tie
 
+-- each byte says itself
+abbrev whole : List ℕ → List ℕ
+whole bytes = bytes
+
 abbrev Inv-loop : tie.InvT-loop
-Inv-loop line₀ text at next₀ i₀ line next i =
-    (length line ≡ length line₀) × (putAll (ink next line) (drop i text) ≡ putAll (ink at line₀) text)
+Inv-loop line₀ text at next₀ i₀ line next i = PutSoFar whole text (ink at line₀) i (ink next line)
 
 abbrev μ-loop : tie.MeasureT-loop
 μ-loop line₀ text at next₀ i₀ line next i = length text - i
@@ -20,13 +18,10 @@ loop-again : tie.Need-loop-again Inv-loop μ-loop
 loop-again c =
     let call = c .before .before in
     let turn = call .before .before .before in
-    let l = turn .before .loop in (
-      call .put .kept .0 ∙ l .inv .0,
-      rw (call .put .ensures) (one-said (λ (bytes : List ℕ). bytes) (λ (b : ℕ). b ∷ []) (λ _ _. refl) (ink (l .next) (l .line)) _ (l .i) (turn .loop-test .taken) ∙ l .inv .1),
-    )
+    one-more whole _ _ _ _ (turn .before .loop .inv) (λ b. b ∷ []) (λ _ _. refl) (turn .loop-test .taken) _ (call .put .kept .0) (call .put .ensures)
 
 returns : tie.Need-returns Inv-loop μ-loop
-returns c = all-said (λ (bytes : List ℕ). bytes) refl _ _ _ (c .loop-test .left) ∙ c .before .loop .inv .1
+returns c = no-more whole _ _ _ _ (c .before .loop .inv) refl (c .loop-test .left)
 
 pub put-all-spec : {M : Type 1} → statement M
 put-all-spec =

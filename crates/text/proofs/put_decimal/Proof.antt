@@ -1,11 +1,4 @@
-use mathlib.Core.Path.{_≡_, refl, ap, _∙_}
-use mathlib.Core.List.{List}
-use Prim.Native.Nat.{ℕ, _+_, _-_, _/_, _<_}
-use native.Mathlib.Omega.{arith}
-use borrow.Author.Needs.{needs}
-use lib.ListN.{length, drop, getD, length-set, length-drop}
-use lib.Seq.{getD-set-same, take-all}
-use Rattle.text.specs.Ink.{ink, putAll}
+use Rattle.ground.specs.Kit.{_≡_, refl, _∙_, _+_, _-_, _/_, _<_, arith, needs, length, drop, getD, length-set, length-drop, getD-set-same, take-all}
 use Rattle.text.specs.Numbers.{lastDigit, digitsBefore, decimalOf}
 use Rattle.text.proofs.Digits.{some-place, one-more, no-more}
 use Rattle.text.proofs.put_decimal.Statement.{statement}
@@ -32,12 +25,9 @@ returns : tie.Need-returns Inv-loop μ-loop
 returns c =
     let after = c .before .before .before .before .before .before in
     let l = after .before .loop in
-    let x = after .before .before .before .args in
+    let left = drop (l .i) (l .digits) in
     c .before .before .put-all .ensures
-    ∙ ap
-    (λ (text : List ℕ). putAll (ink (x .at) (x .line .now)) text)
-    (take-all (20 - l .i) (drop (l .i) (l .digits)) (rw (length-drop (l .i) (l .digits)) (omega (arith, l .inv .1)))
-    ∙ no-more (l .digits) (l .rest) 0 (l .i) (after .loop-test .left) (omega arith) (l .inv .2) ∙ l .inv .3)
+    ∙ rw (take-all (20 - l .i) left (rw (length-drop (l .i) (l .digits)) (omega (arith, l .inv .1))), no-more (l .digits) (l .rest) (l .i) (after .loop-test .left) (omega arith) (l .inv .2), l .inv .3)
 
 pub put-decimal-spec : {M : Type 1} → statement M
 put-decimal-spec =

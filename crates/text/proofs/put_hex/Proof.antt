@@ -1,20 +1,17 @@
-use mathlib.Core.Path.{_∙_}
-use mathlib.Core.List.{[], _∷_}
-use Prim.Native.Nat.{_/_, _%_}
-use native.Mathlib.Omega.{arith}
-use borrow.Author.Needs.{needs}
-use Rattle.text.specs.Numbers.{glyphOf}
-use Rattle.text.proofs.Putting.{put-then, put-alike}
+use Rattle.ground.specs.Kit.{arith, needs}
+use Rattle.text.specs.Numbers.{hexOf}
+use Rattle.text.proofs.Putting.{put-then}
 use Rattle.text.proofs.put_hex.Statement.{statement}
 use Rattle.text.proofs.put_hex.Tie as tie
 
 returns : tie.Need-returns
+unfolding hexOf
 returns c =
-    let first = c .before .before .before .before .before .before in
-    let b = first .before .before .before .before .before .args .b in
-    put-then _ (glyphOf (b / 16) ∷ []) (glyphOf (b % 16) ∷ []) _ _
-    (first .before .put .ensures ∙ put-alike _ _ _ (first .before .before .glyph .ensures))
-    (c .before .before .put2 .ensures ∙ put-alike _ _ _ (c .before .before .before .glyph2 .ensures))
+    let second = c .before .before in
+    let first = second .before .before .before .before .before in
+    put-then _ _ _ _ _
+    (rw (first .before .glyph .ensures) at (first .put .ensures))
+    (rw (second .before .glyph2 .ensures) at (second .put2 .ensures))
 
 pub put-hex-spec : {M : Type 1} → statement M
 put-hex-spec =

@@ -1,17 +1,12 @@
-use mathlib.Core.Path.{_≡_, refl, _∙_}
-use Prim.Native.Nat.{_-_}
-use native.Mathlib.Omega.{arith}
-use borrow.Author.Needs.{needs}
-use lib.ListN.{length, drop}
-use Rattle.text.specs.Ink.{ink, putAll}
+use Rattle.ground.specs.Kit.{refl, _-_, arith, needs, length}
+use Rattle.text.specs.Ink.{ink}
 use Rattle.text.specs.Numbers.{hexOf, hexesOf}
-use Rattle.text.proofs.Putting.{one-said, all-said}
+use Rattle.text.proofs.Putting.{PutSoFar, one-more, no-more}
 use Rattle.text.proofs.put_hexes.Statement.{statement}
 use Rattle.text.proofs.put_hexes.Tie as tie
 
 abbrev Inv-loop : tie.InvT-loop
-Inv-loop line₀ bytes at next₀ i₀ line next i =
-    (length line ≡ length line₀) × (putAll (ink next line) (hexesOf (drop i bytes)) ≡ putAll (ink at line₀) (hexesOf bytes))
+Inv-loop line₀ bytes at next₀ i₀ line next i = PutSoFar hexesOf bytes (ink at line₀) i (ink next line)
 
 abbrev μ-loop : tie.MeasureT-loop
 μ-loop line₀ bytes at next₀ i₀ line next i = length bytes - i
@@ -20,13 +15,10 @@ loop-again : tie.Need-loop-again Inv-loop μ-loop
 loop-again c =
     let call = c .before .before in
     let turn = call .before .before .before in
-    let l = turn .before .loop in (
-      call .put-hex .kept .0 ∙ l .inv .0,
-      rw (call .put-hex .ensures) (one-said hexesOf hexOf (λ _ _. refl) (ink (l .next) (l .line)) _ (l .i) (turn .loop-test .taken) ∙ l .inv .1),
-    )
+    one-more hexesOf _ _ _ _ (turn .before .loop .inv) hexOf (λ _ _. refl) (turn .loop-test .taken) _ (call .put-hex .kept .0) (call .put-hex .ensures)
 
 returns : tie.Need-returns Inv-loop μ-loop
-returns c = all-said hexesOf refl _ _ _ (c .loop-test .left) ∙ c .before .loop .inv .1
+returns c = no-more hexesOf _ _ _ _ (c .before .loop .inv) refl (c .loop-test .left)
 
 pub put-hexes-spec : {M : Type 1} → statement M
 put-hexes-spec =

@@ -1,10 +1,14 @@
-use borrow.Author.Needs.{needs}
+use Rattle.ground.specs.Kit.{needs}
 use Rattle.text.proofs.Putting.{put-then}
+use Rattle.player.specs.Lines.{digitsText}
 use Rattle.player.proofs.lines.put_digits.Statement.{statement}
 use Rattle.player.proofs.lines.put_digits.Tie as tie
 
 returns : tie.Need-returns
-returns c = put-then _ _ _ _ _ (c .before .before .before .before .before .before .put-hex .ensures) (c .before .before .put .ensures)
+unfolding digitsText
+returns c =
+    let space = c .before .before in
+    put-then _ _ _ _ _ (space .before .before .before .before .put-hex .ensures) (space .put .ensures)
 
 pub put-digits-spec : {M : Type 1} → statement M
 put-digits-spec =

@@ -1,10 +1,12 @@
-use borrow.Author.Needs.{needs}
+use Rattle.ground.specs.Kit.{needs}
 use Rattle.text.proofs.Putting.{put-then}
 use Rattle.player.proofs.lines.put_number.Statement.{statement}
 use Rattle.player.proofs.lines.put_number.Tie as tie
 
 returns : tie.Need-returns
-returns c = put-then _ _ _ _ _ (c .before .before .before .before .before .before .put-decimal .ensures) (c .before .before .put .ensures)
+returns c =
+    let space = c .before .before in
+    put-then _ _ _ _ _ (space .before .before .before .before .put-decimal .ensures) (space .put .ensures)
 
 pub put-number-spec : {M : Type 1} → statement M
 put-number-spec =

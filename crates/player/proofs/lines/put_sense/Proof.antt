@@ -1,4 +1,4 @@
-use borrow.Author.Needs.{needs}
+use Rattle.ground.specs.Kit.{needs}
 use Rattle.text.proofs.Putting.{put-then}
 use Rattle.player.specs.Lines.{senseText}
 use Rattle.player.proofs.lines.put_sense.Statement.{statement}
@@ -7,9 +7,10 @@ use Rattle.player.proofs.lines.put_sense.Tie as tie
 returns : tie.Need-returns
 unfolding senseText
 returns c =
-    put-then _ _ _ _ _
-    (put-then _ _ _ _ _ (c .before .before .before .before .before .before .before .before .before .before .put-digits .ensures) (c .before .before .before .before .before .before .put-digits2 .ensures))
-    (c .before .before .put-digits3 .ensures)
+    let third = c .before .before in
+    let second = third .before .before .before .before in
+    let first = second .before .before .before .before in
+    put-then _ _ _ _ _ (put-then _ _ _ _ _ (first .put-digits .ensures) (second .put-digits2 .ensures)) (third .put-digits3 .ensures)
 
 pub put-sense-spec : {M : Type 1} → statement M
 put-sense-spec =

@@ -1,89 +1,121 @@
-use mathlib.Core.Path.{sym, ap, _∙_}
-use mathlib.Core.List.{List}
-use Prim.Native.Nat.{ℕ, _+_, _≤_}
-use native.Mathlib.Omega.{arith}
-use borrow.Author.Needs.{needs}
-use lib.ListN.{length, take, length-replicate}
-use lib.Seq.{length-take-le}
-use Rattle.house.specs.World.{world}
-use Rattle.player.specs.Playing.{pullSaid}
+use Rattle.ground.specs.Kit.{_≡_, sym, ap, ℕ, _+_, _-_, _≤_, arith, needs, length, length-replicate, length-take-le, take-append-le}
+use Rattle.record.specs.declared.{Record.Record}
+use Rattle.house.specs.World.{World, world, Reply}
+use Rattle.drive.specs.Calls.{callOf}
 use Rattle.record.specs.declared.Record.the-variants.{Command, Feed, Pull}
-use Rattle.player.proofs.Lending.{holding, shown-first, zeros-first, fed-behind}
+use Rattle.record.specs.Holding.{Holds}
+use Rattle.player.specs.Playing.{calledOf, pulledOf}
+use Rattle.player.proofs.Lending.{seen-within, seen-there, whole, insert-says, eject-says, count-within, holding, zeros-first}
 use Rattle.player.proofs.playing.play.Statement.{statement}
 use Rattle.player.proofs.playing.play.Tie as tie
 
-command-there : tie.Need-part-command-end
-command-there c = let h = holding _ _ Command (c .before .before .first-record .ensures) (c .enum-told2 .given .1) in omega (arith, h .0 .1, h .1)
+abbrev start : tie.After-seen → tie.Start
+start s = s .before .before .before .before .before .before
 
--- the piece is there
-piece : (c : tie.After-known-told2) → 4 + c .before .told2 .given .0 .0 ≤ length (c .before .before .before .before .before .before .before .before .args .script .now)
-piece c = let h = holding _ _ (Feed _) (c .before .before .before .first-record .ensures) (c .before .told2 .given .1) in omega (arith, h .0 .1, h .1)
+abbrev bench : tie.After-seen → World
+bench s = let x = start s .args in world (x .state) (x .buffer .now) (x .disc .now)
 
-feed-fits : tie.Need-add-end
-feed-fits c = omega (arith, piece c, c .before .before .before .before .before .before .before .before)
+part : (s : tie.After-seen) → s .seen .result ≤ length (start s .args .disc .now)
+part s = let x = start s .args in seen-within (x .state .media .disc) (x .disc .now) _ (s .seen .ensures)
 
-feed-there : tie.Need-part-feed-end
-feed-there c = piece c
+-- the record that was told
+holds : (s : tie.After-seen) (r : Record) → s .before .first-record .result ≡ r → Holds r (start s .args .script .now)
+holds s r e = holding _ _ r (s .before .first-record .ensures) e
 
--- no more than 512 bytes are asked for
-few : (c : tie.After-known-told3) → c .before .told3 .given .0 .0 ≤ length (c .before .before .before .before .before .before .before .before .args .out .now)
-few c = rw (c .before .before .before .before .before .before .before .before .pre, length-replicate {A = ℕ} 512 0) (holding _ _ (Pull _) (c .before .before .before .first-record .ensures) (c .before .told3 .given .1) .1)
+packet-there : tie.Need-part-packet-end
+packet-there c = let h = holds (c .before .before) Command (c .enum-told2 .given .1) in omega (arith, h .0 .1, h .1)
 
-pull-part : tie.Need-slice-relend-prefix-pull
-pull-part c = few c
+piece-there : tie.Need-part-piece-end
+piece-there c =
+    let told = c .before in
+    let h = holds (told .before .before) (Feed _) (told .told2 .given .1) in
+    omega (arith, h .0 .1, h .1)
 
-pull-there : tie.Need-slice-aggregate-pull
-pull-there c = sym (length-take-le _ _ (few (c .before)))
+piece-fits : tie.Need-add-end
+piece-fits c = omega (arith, piece-there c, start (c .before .before .before))
+
+out-there : tie.Need-slice-relend-prefix-pull
+out-there c =
+    let told = c .before in
+    let seen = told .before .before in
+    rw (start seen .pre, length-replicate {A = ℕ} 512 0) (holds seen (Pull _) (told .told3 .given .1) .1)
 
 inserted : tie.Need-returns
-inserted c = rw (← c .before .before .before .before .before .first-record .ensures, c .before .before .before .told .given .1) (c .insert .ensures _ _)
+inserted c =
+    let call = c .before in
+    let told = call .before .before .before in
+    let seen = told .before .before in
+    rw (← seen .before .first-record .ensures, told .told .given .1, insert-says (bench seen) _ _, c .event .ensures, ← call .insert .ensures)
 
 ejected : tie.Need-returns-2
-ejected c = rw (← c .before .before .before .first-record .ensures, c .before .enum-told .given .1) (c .eject .ensures _ _ _)
+ejected c =
+    let call = c .before in
+    let told = call .before in
+    rw (← told .before .before .before .first-record .ensures, told .enum-told .given .1, eject-says _, c .event2 .ensures, ← call .eject .ensures)
 
 commanded : tie.Need-returns-3
-commanded c = rw (← c .before .before .before .before .before .before .before .before .first-record .ensures, c .before .before .before .before .before .before .enum-told2 .given .1) (c .before .before .command .ensures _)
+unfolding calledOf callOf
+commanded c =
+    let call = c .before .before .before in
+    let told = call .before .before .before .before in
+    let seen = told .before .before in
+    rw (← seen .before .first-record .ensures, told .enum-told2 .given .1, c .commanded .ensures, ← seen .seen .ensures, ← call .command .ensures, whole)
 
 fed : tie.Need-returns-4
-fed c = rw (← c .before .before .before .before .before .before .before .before .before .before .before .first-record .ensures, c .before .before .before .before .before .before .before .before .before .told2 .given .1) (c .before .before .before .before .feed .ensures _ ∙ fed-behind _ (c .before .before .before .before .before .before .before .before .before .before .before .before .before .before .before .before .args .script .now) (c .before .before .before .before .before .before .before .before .before .told2 .given .0 .0))
+unfolding calledOf callOf
+fed c =
+    let call = c .before .before .before .before .before in
+    let told = call .before .before .before .before .before in
+    let seen = told .before .before in
+    let n = told .told2 .given .0 .0 in
+    let behind : 4 + n - 4 ≡ n = omega arith in
+    rw (← seen .before .first-record .ensures, told .told2 .given .1, c .moved .ensures, ← seen .seen .ensures, ← (rw behind at (call .feed .ensures)), call .feed .kept .1 .1 .1 .0, ← seen-there _ _ _ (seen .seen .ensures))
 
 pulled : tie.Need-returns-5
+unfolding pulledOf callOf
 pulled c =
-    let x = c .before .before .before .before .before .before .before .before .before .before .before .before .before .before .args in
-    let told = c .before .before .before .before .before .before .before in
-    let call = c .before .before in
-    let w = world (x .state) (x .buffer .now) (x .disc .now) in
-    rw (← c .before .before .before .before .before .before .before .before .before .first-record .ensures, told .told3 .given .1)
-    (shown-first (call .pull .result) _ _ (x .buffer .now) (x .disc .now) (rw (call .pull .kept .1 .0) (call .pull .ensures .0))
-    ∙ call .pull .ensures .1
-    ∙ ap (λ (out : List ℕ). pullSaid w out) (ap (λ (zs : List ℕ). take (told .told3 .given .0 .0) zs) (c .before .before .before .before .before .before .before .before .before .before .before .before .before .before .pre) ∙ zeros-first _ 512 (holding _ _ (Pull _) (c .before .before .before .before .before .before .before .before .before .first-record .ensures) (told .told3 .given .1) .1)))
-
-spoilt : tie.Need-returns-6
-spoilt c = rw (← c .before .before .first-record .ensures, c .enum-told3 .given .1)
+    let call = c .before .before .before in
+    let told = call .before .before .before .before .before in
+    let seen = told .before .before in
+    let few = holds seen (Pull _) (told .told3 .given .1) .1 in
+    let fits : call .pull .result .count ≤ length (call .pull .last .1 .0) = rw (call .pull .kept .1 .0, ap (λ (r : Reply). r .heard .count) (call .pull .ensures)) (count-within _ _) in
+    rw (← seen .before .first-record .ensures, told .told3 .given .1, c .moved2 .ensures, take-append-le _ _ _ fits, ← seen .seen .ensures, ← (rw (start seen .pre, zeros-first _ 512 few) at (call .pull .ensures)), whole)
 
 pub play-spec : {M : Type 1} → statement M
 play-spec =
     tie.close
     (tie.spec
     (λ _ _. tt)
-    (λ c. search needs)
     (λ _ _. tt)
     (λ c. search needs)
     (λ _ _. tt)
-    (λ c. search needs)
-    (λ c. search needs)
-    (λ c. search needs)
-    command-there
     (λ _ _. tt)
     (λ c. search needs)
-    feed-fits
-    (λ c. search needs)
-    (λ c. search needs)
-    feed-there
+    (λ _ _. tt)
     (λ _ _. tt)
     (λ c. search needs)
-    pull-part
-    pull-there
+    (λ c. search needs)
+    (λ c. search needs)
+    packet-there
+    (λ c. part (c .before .before .before .before))
+    (λ c. sym (length-take-le _ _ (part (c .before .before .before .before .before))))
+    (λ _ _. tt)
+    (λ _ _. tt)
+    (λ c. search needs)
+    piece-fits
+    (λ c. search needs)
+    (λ c. search needs)
+    piece-there
+    (λ c. part (c .before .before .before .before .before))
+    (λ c. sym (length-take-le _ _ (part (c .before .before .before .before .before .before))))
+    (λ _ _. tt)
+    (λ _ _. tt)
+    (λ c. search needs)
+    out-there
+    (λ c. sym (length-take-le _ _ (out-there (c .before))))
+    (λ c. part (c .before .before .before .before .before))
+    (λ c. sym (length-take-le _ _ (part (c .before .before .before .before .before .before))))
+    (λ _ _. tt)
     (λ _ _. tt)
     (λ c. search needs)
     (λ c. search needs)
@@ -99,4 +131,4 @@ play-spec =
     (λ c. search needs)
     (λ c. search needs)
     pulled
-    spoilt)
+    (λ c. rw (← c .before .before .before .first-record .ensures, c .enum-told3 .given .1)))

@@ -1,0 +1,52 @@
+-- Paper 01, "Disc transfers": a feed, byte by byte.
+use Rattle.ground.specs.Kit.{false, cond, List, [], _∷_, ℕ, _+_, _-_, _%_, min, eqb, length, take, set, paste}
+use Rattle.disc.specs.declared.{BytePlace.BytePlace}
+use Rattle.state.specs.declared.{State.State, DiscAt.DiscAt, Transfer.Transfer}
+use Rattle.disc.specs.Formats.{blockBytes}
+use Rattle.state.specs.States.{movedOf}
+use Rattle.state.specs.declared.Transfer.the-variants.{Closed, Answer, Read, Write}
+use Rattle.house.specs.World.{World, inState, inBuffer, inDisc, Reply, reply, unlessRefused}
+use Rattle.house.specs.Refusals.{moveHouse}
+use Rattle.moves.specs.Replies.{idle, onward, discAfter}
+
+-- the place of the next byte, the block buffer and the disc
+pub record Writing : Type 0 where
+  pub at : BytePlace
+  pub buffer : List ℕ
+  pub disc : List ℕ
+
+abbrev pub writing : BytePlace → List ℕ → List ℕ → Writing
+writing at buffer disc = record { at = at; buffer = buffer; disc = disc }
+
+-- by blocks of b bytes: "Each byte taken goes first to its place within the block in the block buffer; when a block is complete it is
+-- copied to the disc. The buffer is never cleared."
+unfoldable pub feedByte : ℕ → Writing → ℕ → Writing
+feedByte b v x =
+    let at = v .at .0 in
+    let buffer = set (v .buffer) (at % b) x in
+    writing (onward (v .at) 1) buffer (cond (eqb ((at + 1) % b) 0) (paste (v .disc) (at + 1 - b) buffer b) (v .disc))
+
+abbrev pub feedBytes : ℕ → Writing → List ℕ → Writing
+feedBytes b v [] = v
+feedBytes b v (x ∷ xs) = feedBytes b (feedByte b v x) xs
+
+-- a world with another state, and with the block buffer and the disc that were written
+abbrev pub written : World → State → Writing → World
+written w next v = inDisc (inBuffer (inState w next) (v .buffer)) (v .disc)
+
+-- an open write: "A feed takes the first min(piece, left) bytes; the remainder of the piece is the caller's, reported by the count."
+abbrev pub writeFed : DiscAt → World → List ℕ → Reply
+writeFed p w piece =
+    let n = min (length piece) (p .left) in
+    let v = feedBytes (blockBytes (w .state .media .disc)) (writing (p .at) (w .buffer) (w .disc)) (take n piece) in
+    reply 0 false n piece (written w (movedOf (w .state) (Write (discAfter p n))) v)
+
+-- "A feed without an open write .. gives count 0 and changes nothing."
+abbrev pub feedBy : Transfer → World → List ℕ → Reply
+feedBy Closed w piece = idle w piece
+feedBy (Answer p) w piece = idle w piece
+feedBy (Read p) w piece = idle w piece
+feedBy (Write p) w piece = writeFed p w piece
+
+unfoldable pub feedOf : World → List ℕ → Reply
+feedOf w piece = unlessRefused (moveHouse w) w piece (feedBy (w .state .transfer) w piece)

@@ -1,0 +1,8 @@
+use Rattle.ground.specs.Kit.{sym, List·getD-eq-default, needs}
+use Rattle.ground.proofs.byte.Statement.{statement}
+use Rattle.ground.proofs.byte.Tie as tie
+
+pub byte-spec : {M : Type 1} → statement M
+byte-spec =
+    tie.close
+    (tie.spec (λ c. search needs) (λ c. search needs) (λ c. sym (List·getD-eq-default (c .before .args .bytes .now) 0 (c .if1 .left))))

@@ -1,0 +1,67 @@
+-- The table of base commands: each rule is one test that antt computes over all entries. Assumes nothing.
+use Rattle.ground.specs.Kit.{_≡_, refl, Bool, true, false, not, _||_, Bool·beq, false≢true, List, ℕ, eqb}
+use Rattle.packet.specs.declared.{Rule.Rule, Routine.Routine, Known.Known}
+use Rattle.ground.proofs.Tables.{all, found}
+use Rattle.packet.specs.Rules.{rules, codeOf, ruleOf}
+use Rattle.packet.specs.declared.Routine.the-variants.{Nothing, Motor, Answer, Read, Write}
+use Rattle.packet.specs.declared.Known.the-variants.{Unknown, Base}
+
+module _ (test : ℕ → Rule → Bool) where
+  abbrev pub ofKnown : ℕ → Known → Bool
+  ofKnown code Unknown = true
+  ofKnown code (Base rule) = test code rule
+
+  -- a test that every entry passes holds of every base command
+  pub of-base : all (λ e. ofKnown (e .key) (e .item)) rules ≡ true → (p : List ℕ) (rule : Rule) → ruleOf p ≡ Base rule → test (codeOf p) rule ≡ true
+  unfolding ruleOf
+  of-base e p rule known = rw known at (found ofKnown Unknown (codeOf p) refl rules e)
+
+abbrev pub opensB : Routine → Bool
+opensB Nothing = false
+opensB Motor = false
+opensB (Answer a) = false
+opensB Read = true
+opensB Write = true
+
+abbrev pub writesB : Routine → Bool
+writesB Nothing = false
+writesB Motor = false
+writesB (Answer a) = false
+writesB Read = false
+writesB Write = true
+
+-- what opens blocks asks for a disc and for the range, and a write for no protection
+pub record Guarded (rule : Rule) : Type 0 where
+  pub disc : (not (opensB (rule .routine)) || rule .asked .disc) ≡ true
+  pub range : (not (opensB (rule .routine)) || rule .asked .range) ≡ true
+  pub unprotected : (not (writesB (rule .routine)) || rule .asked .unprotected) ≡ true
+
+pub guarded : (p : List ℕ) (rule : Rule) → ruleOf p ≡ Base rule → Guarded rule
+unfolding rules
+guarded p rule known =
+    record {
+      disc = of-base (λ code rule. not (opensB (rule .routine)) || rule .asked .disc) refl p rule known;
+      range = of-base (λ code rule. not (opensB (rule .routine)) || rule .asked .range) refl p rule known;
+      unprotected = of-base (λ code rule. not (writesB (rule .routine)) || rule .asked .unprotected) refl p rule known;
+    }
+
+-- check C is asked of all but 03 and 12
+abbrev pub freeB : ℕ → Bool
+freeB code = eqb code 0x03 || eqb code 0x12
+
+same : (a b : Bool) → Bool·beq a b ≡ true → a ≡ b
+same true true e = refl
+same false false e = refl
+same true false e = absurd (false≢true e)
+same false true e = absurd (false≢true e)
+
+pub attended : (p : List ℕ) (rule : Rule) → ruleOf p ≡ Base rule → rule .asked .attention ≡ not (freeB (codeOf p))
+unfolding rules
+attended p rule known =
+    same (rule .asked .attention) (not (freeB (codeOf p)))
+    (of-base (λ code rule. Bool·beq (rule .asked .attention) (not (freeB code))) refl p rule known)
+
+-- check B is asked of every command
+pub unit-asked : (p : List ℕ) (rule : Rule) → ruleOf p ≡ Base rule → rule .asked .unit ≡ true
+unfolding rules
+unit-asked p rule known = of-base (λ code rule. rule .asked .unit) refl p rule known

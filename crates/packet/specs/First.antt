@@ -1,8 +1,0 @@
--- Tests in order: "the first .. to fail gives ..".
-use mathlib.Core.Bool.{Bool, cond}
-use mathlib.Core.List.{List, [], _∷_}
-
-module _ {A B : Type 0} (fails : A → Bool) (gives : A → B) where
-  abbrev pub first : List A → B → B
-  first [] other = other
-  first (x ∷ xs) other = cond (fails x) (gives x) (first xs other)

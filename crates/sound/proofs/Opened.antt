@@ -1,0 +1,98 @@
+-- What soundness says of an open transfer, in numbers, and back. Assumes nothing.
+use Rattle.ground.specs.Kit.{_≡_, refl, true, false, not, _&&_, true≢false, false≢true, ℕ, _+_, _%_, _≤_, _<_, eqb-true, eqb-false, leb-true, ltb-true, ne-eqb, le-leb, lt-ltb, not-true, eqb, leb, ltb}
+use Rattle.state.specs.declared.{AnswerAt.AnswerAt, DiscAt.DiscAt, Media.Media, Transfer.Transfer}
+use Rattle.disc.specs.Formats.{bufferBytes, blockBytes, discBytes}
+use Rattle.ground.proofs.Truth.{both}
+use Rattle.state.specs.declared.Transfer.the-variants.{Closed, Answer, Read, Write}
+use Rattle.state.specs.States.{leftOf, isOpenB}
+use Rattle.sound.specs.Soundness.{onDiscB, endsOnBlockB, openSoundB}
+
+-- "an answer: within the block buffer"
+pub record InBuffer (p : AnswerAt) : Type 0 where
+  pub some : 0 < p .left
+  pub within : p .at + p .left ≤ bufferBytes
+
+-- "at least one byte left and ends within its disc"
+pub record OnDisc (number : ℕ) (p : DiscAt) : Type 0 where
+  pub is-in : number ≡ 0 → ⊥
+  pub some : 0 < p .left
+  pub within : p .at .0 + p .left ≤ discBytes number
+
+-- "a write ends on a block boundary"
+pub record EndsOnBlock (number : ℕ) (p : DiscAt) : Type 0 where
+  pub blocks : blockBytes number ≡ 0 → ⊥
+  pub whole : (p .at .0 + p .left) % blockBytes number ≡ 0
+
+module _ (m : Media) (p : AnswerAt) where
+  pub in-buffer : openSoundB m (Answer p) ≡ true → InBuffer p
+  unfolding openSoundB
+  in-buffer e =
+      let (some, within) = both (ltb 0 (p .left)) (leb (p .at + p .left) bufferBytes) e in
+      record { some = ltb-true 0 (p .left) some; within = leb-true (p .at + p .left) bufferBytes within }
+
+  pub answer-sound : InBuffer p → openSoundB m (Answer p) ≡ true
+  unfolding openSoundB
+  answer-sound i = rw (lt-ltb 0 (p .left) (i .some), le-leb (p .at + p .left) bufferBytes (i .within))
+
+module _ (number : ℕ) (p : DiscAt) where
+  pub on-disc : onDiscB number p ≡ true → OnDisc number p
+  unfolding onDiscB
+  on-disc e =
+      let (a, within) = both (not (eqb number 0) && ltb 0 (p .left)) (leb (p .at .0 + p .left) (discBytes number)) e in
+      let (is-in, some) = both (not (eqb number 0)) (ltb 0 (p .left)) a in
+      record {
+        is-in = eqb-false number 0 (not-true (eqb number 0) is-in);
+        some = ltb-true 0 (p .left) some;
+        within = leb-true (p .at .0 + p .left) (discBytes number) within;
+      }
+
+  pub on-disc-sound : OnDisc number p → onDiscB number p ≡ true
+  unfolding onDiscB
+  on-disc-sound d =
+      rw (ne-eqb number 0 (d .is-in), lt-ltb 0 (p .left) (d .some), le-leb (p .at .0 + p .left) (discBytes number) (d .within))
+
+  pub ends-on-block : endsOnBlockB number p ≡ true → EndsOnBlock number p
+  unfolding endsOnBlockB
+  ends-on-block e =
+      let (blocks, whole) = both (not (eqb (blockBytes number) 0)) (eqb ((p .at .0 + p .left) % blockBytes number) 0) e in
+      record {
+        blocks = eqb-false (blockBytes number) 0 (not-true (eqb (blockBytes number) 0) blocks);
+        whole = eqb-true ((p .at .0 + p .left) % blockBytes number) 0 whole;
+      }
+
+  pub ends-sound : EndsOnBlock number p → endsOnBlockB number p ≡ true
+  unfolding endsOnBlockB
+  ends-sound e = rw (ne-eqb (blockBytes number) 0 (e .blocks), e .whole)
+
+-- a write: on its disc, to the end of a block, unprotected
+pub record Writes (m : Media) (p : DiscAt) : Type 0 where
+  pub on : OnDisc (m .disc) p
+  pub ends : EndsOnBlock (m .disc) p
+  pub bare : not (m .protected) ≡ true
+
+module _ (m : Media) (p : DiscAt) where
+  pub writes : openSoundB m (Write p) ≡ true → Writes m p
+  unfolding openSoundB
+  writes e =
+      let (a, bare) = both (onDiscB (m .disc) p && endsOnBlockB (m .disc) p) (not (m .protected)) e in
+      let (on, ends) = both (onDiscB (m .disc) p) (endsOnBlockB (m .disc) p) a in
+      record { on = on-disc (m .disc) p on; ends = ends-on-block (m .disc) p ends; bare = bare }
+
+  pub writes-sound : Writes m p → openSoundB m (Write p) ≡ true
+  unfolding openSoundB
+  writes-sound w = rw (on-disc-sound (m .disc) p (w .on), ends-sound (m .disc) p (w .ends), w .bare)
+
+-- whatever is open has bytes left
+pub some-left : (m : Media) (t : Transfer) → openSoundB m t ≡ true → isOpenB t ≡ true → 0 < leftOf t
+unfolding openSoundB
+some-left m Closed e o = absurd (false≢true o)
+some-left m (Answer p) e o = in-buffer m p e .some
+some-left m (Read p) e o = on-disc (m .disc) p e .some
+some-left m (Write p) e o = writes m p e .on .some
+
+-- and what isn't has none
+pub none-left : (t : Transfer) → isOpenB t ≡ false → leftOf t ≡ 0
+none-left Closed o = refl
+none-left (Answer p) o = absurd (true≢false o)
+none-left (Read p) o = absurd (true≢false o)
+none-left (Write p) o = absurd (true≢false o)
