@@ -1,7 +1,7 @@
 -- Paper 01, "A command": what a packet makes of the state and of what was lent.
 use Rattle.ground.specs.Kit.{Bool, true, false, List, [], ℕ, _%_, eqb}
 use Rattle.disc.specs.declared.{BlockAddress.BlockAddress}
-use Rattle.state.specs.declared.{State.State, DiscAt.DiscAt, Transfer.Transfer}
+use Rattle.state.specs.declared.{DiscAt.DiscAt, Transfer.Transfer}
 use Rattle.packet.specs.declared.{Rule.Rule, Routine.Routine}
 use Rattle.checks.specs.declared.{Verdict.Verdict}
 use Rattle.commands.specs.declared.{CommandReply.CommandReply}
@@ -16,7 +16,7 @@ use Rattle.packet.specs.declared.Routine.the-variants.{Nothing, Motor, Answer, 
 use Rattle.checks.specs.Verdicts.{verdict}
 use Rattle.checks.specs.declared.Verdict.the-variants.{Passes, Fails}
 use Rattle.answer.specs.Giving.{giveOf}
-use Rattle.house.specs.World.{World, world, inState, inBuffer, Reply, reply, unlessRefused}
+use Rattle.house.specs.World.{World, inState, inBuffer, Reply, reply, unlessRefused}
 use Rattle.house.specs.Refusals.{numberOf, commandHouse}
 
 -- the bytes of so many blocks from an address
@@ -47,9 +47,9 @@ routineOf Write w p n = moving WriteTo w p n
 unfoldable pub performedOf : Rule → World → List ℕ → World
 performedOf rule w p = routineOf (rule .routine) w p (lengthOf (rule .length) p)
 
--- a reply by its number, with the block buffer and the disc that were lent
-abbrev pub commanded : CommandReply → List ℕ → List ℕ → Reply
-commanded r buffer disc = reply (numberOf (r .house)) (r .passed) 0 [] (world (r .state) buffer disc)
+-- a reply by its number, with what is lent afterwards
+abbrev pub commanded : CommandReply → World → Reply
+commanded r w = reply (numberOf (r .house)) (r .passed) 0 [] (inState w (r .state))
 
 -- "A packet past tests 1 to 4 first closes any open transfer": what a command leaves open is its own; one that fails leaves block
 -- buffer and disc

@@ -1,8 +1,8 @@
 // The events and the commands, each with its house refusals.
-ghost use Rattle.ground.specs.Kit.{_≡_, ℕ, List, length};
+ghost use Rattle.ground.specs.Kit.{_≡_, length};
 ghost use Rattle.state.specs.Senses.{noSense};
 ghost use Rattle.state.specs.States.{powerOn, obeyedOf};
-ghost use Rattle.house.specs.World.{world};
+ghost use Rattle.house.specs.World.{World, inState, inBuffer, inLent};
 ghost use Rattle.house.specs.Refusals.{numberOf};
 ghost use Rattle.commands.specs.Events.{happened, eventOf, insertOf, ejectOf};
 ghost use Rattle.commands.specs.Obeying.{spanOf, performedOf, commanded, commandOf};
@@ -34,7 +34,7 @@ pub fn power_on() -> State
 }
 
 // The reply to an event: a refusal leaves the state.
-fn unless_refused(house: House, state: State, next: State) -> EventReply
+fn event(house: House, state: State, next: State) -> EventReply
     ensures { λ r. ⌜ happened r ≡ eventOf (numberOf house) state next ⌝ }
 {
     if house::number_of(house) != 0 {
@@ -53,13 +53,13 @@ pub fn insert(state: State, number: u8, protected: bool, disc: &[u8]) -> EventRe
     ensures { λ r. ⌜ happened r ≡ insertOf state number protected (length (now (disc .entry))) ⌝ }
 {
     let house = house::insert_house(state, number, disc.len());
-    unless_refused(house, state, state::inserted(state, number, protected))
+    event(house, state, state::inserted(state, number, protected))
 }
 
 pub fn eject(state: State) -> EventReply
     ensures { λ r. ⌜ happened r ≡ ejectOf state ⌝ }
 {
-    unless_refused(house::eject_house(state), state, state::ejected(state))
+    event(house::eject_house(state), state, state::ejected(state))
 }
 
 // The bytes of so many blocks from an address.
@@ -80,10 +80,10 @@ fn passed(state: State, motor: bool, transfer: Transfer) -> State
     state::obeyed(state, state::NO_SENSE, motor, transfer)
 }
 
-// What a command that has passed does; it is lent no disc, so that it leaves any.
+// What a command that has passed does; it is lent the block buffer alone, so that it leaves all else.
 fn performed(state: State, rule: Rule, packet: &[u8], buffer: &mut [u8]) -> State
-    ensures { λ r. ⌜ ((disc : List ℕ) → world r (now (buffer .exit)) disc
-        ≡ performedOf rule (world state (now (buffer .entry)) disc) (now (packet .entry))) ⌝ }
+    ensures { λ r. ⌜ ((w : World) → inBuffer (inState w r) (now (buffer .exit))
+        ≡ performedOf rule (inBuffer (inState w state) (now (buffer .entry))) (now (packet .entry))) ⌝ }
 {
     let media = state.media;
     let sense = state.host.sense;
@@ -105,8 +105,8 @@ fn performed(state: State, rule: Rule, packet: &[u8], buffer: &mut [u8]) -> Stat
 }
 
 pub fn command(state: State, packet: &[u8], buffer: &mut [u8], disc: &[u8]) -> CommandReply
-    ensures { λ r. ⌜ commanded r (now (buffer .exit)) (now (disc .entry))
-        ≡ commandOf (world state (now (buffer .entry)) (now (disc .entry))) (now (packet .entry)) ⌝ }
+    ensures { λ r. ⌜ ((w : World) → commanded r (inLent w (now (buffer .exit)) (now (disc .entry)))
+        ≡ commandOf (inState (inLent w (now (buffer .entry)) (now (disc .entry))) state) (now (packet .entry))) ⌝ }
 {
     let house = house::command_house(state, packet.len(), buffer.len(), disc.len());
     if house::number_of(house) != 0 {

@@ -2,12 +2,12 @@
 use Rattle.ground.specs.Kit.{_≡_, refl, sym, subst, _∙_, Bool, true, List, [], _∷_, flatten, ℕ, _+_, arith, length}
 use Rattle.state.specs.declared.{DiscAt.DiscAt, Media.Media, Transfer.Transfer}
 use Rattle.disc.specs.Formats.{formatOf, blockBytes, runBytes, discBytes}
-use Rattle.state.specs.declared.Transfer.the-variants.{Closed, Answer, Read, Write}
+use Rattle.state.specs.declared.Transfer.the-variants.{Closed, Write}
 use Rattle.state.specs.States.{leftOf, closedAtZero, insertedOf, ejectedOf}
 use Rattle.state.proofs.Closing.{by-left}
 use Rattle.sound.specs.Soundness.{openSoundB, soundB}
 use Rattle.sound.proofs.Keeping.{parts}
-use Rattle.sound.proofs.Opened.{on-disc, writes}
+use Rattle.sound.proofs.Opened.{Discless, shut as is-shut, answers, discless}
 use Rattle.house.specs.World.{World}
 use Rattle.house.proofs.Houses.{insert-admits}
 use Rattle.feeds.specs.Feeding.{writing}
@@ -62,11 +62,11 @@ pub record Agrees (w : World) (l : Ledger) : Type 0 where
 -- without a disc no disc transfer is open, so that another disc changes nothing of what is open
 no-disc : (m : Media) → m .disc ≡ 0 → (buffer disc other : List ℕ) (t : Transfer) → openSoundB m t ≡ true
     → (gives buffer other t ≡ gives buffer disc t) × ((p : DiscAt) → t ≡ Write p → ⊥)
-unfolding openSoundB
-no-disc m none buffer disc other Closed s = (refl, λ p e. let z : _≡_ {A = ℕ} 0 1 = cc in omega arith)
-no-disc m none buffer disc other (Answer q) s = (refl, λ p e. let z : _≡_ {A = ℕ} 0 1 = cc in omega arith)
-no-disc m none buffer disc other (Read q) s = absurd (on-disc (m .disc) q s .is-in none)
-no-disc m none buffer disc other (Write q) s = absurd (writes m q s .on .is-in none)
+no-disc m none buffer disc other t s = here (discless m none t s)
+  where
+    here : Discless t → (gives buffer other t ≡ gives buffer disc t) × ((p : DiscAt) → t ≡ Write p → ⊥)
+    here (is-shut q) = (rw q, λ p e. let z : _≡_ {A = ℕ} 0 1 = cc in omega arith)
+    here (answers a q) = (rw q, λ p e. let z : _≡_ {A = ℕ} 0 1 = cc in omega arith)
 
 module _ (w : World) (sound : soundB (w .state) ≡ true) (l : Ledger) (a : Agrees w l) where
   pub agrees-inserted : (number : ℕ) (prot : Bool) (disc : List ℕ)

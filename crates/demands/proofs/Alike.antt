@@ -1,6 +1,6 @@
 -- A packet that is alike to a passing READ or WRITE but for address and length passes too, where its blocks are among the other's.
 -- Assumes nothing.
-use Rattle.ground.specs.Kit.{_≡_, refl, sym, ap, _∙_, Bool, true, false, not, _&&_, _||_, false≢true, List, ℕ, _+_, _≤_, _<_, _%_, arith, eq-eqb, eqb-true, le-ltb, lt-leb, ltb-true, bitAnd, and-mask, eqb, leb, ltb, length}
+use Rattle.ground.specs.Kit.{_≡_, refl, sym, _∙_, Bool, true, false, not, _&&_, _||_, false≢true, List, ℕ, _+_, _≤_, _<_, _%_, arith, eq-eqb, eqb-true, le-ltb, lt-leb, ltb-true, bitAnd, and-mask, eqb, leb, ltb, length}
 use Rattle.disc.specs.declared.{BlockAddress.BlockAddress}
 use Rattle.state.specs.declared.{Media.Media, Host.Host}
 use Rattle.packet.specs.declared.{Field.Field, Values.Values, Rule.Rule}
@@ -11,7 +11,7 @@ use Rattle.disc.specs.Formats.{formatOf}
 use Rattle.disc.specs.Masks.{masks, maskRow}
 use Rattle.disc.proofs.Discs.{few-blocks}
 use Rattle.packet.specs.Fields.{addressOf, lengthOf}
-use Rattle.packet.specs.Rules.{codeOf, rules, ruleOf}
+use Rattle.packet.specs.Rules.{rules, ruleOf}
 use Rattle.packet.specs.declared.Field.the-variants.{Nowhere, Byte4, Bytes7To8, Bytes6To9}
 use Rattle.packet.specs.declared.Values.the-variants.{Any, ZeroBits, Page}
 use Rattle.packet.specs.declared.Known.the-variants.{Base}
@@ -19,7 +19,7 @@ use Rattle.packet.proofs.BaseCommands.{ofKnown, of-base, opensB, unit-asked}
 use Rattle.checks.specs.Verdicts.{bitsB, belowB, inMaskB, checksOf, verdict}
 use Rattle.checks.specs.declared.Verdict.the-variants.{Passes, Fails}
 use Rattle.checks.proofs.Below.{one-fails}
-use Rattle.checks.proofs.Passing.{Passed, passed, in-range}
+use Rattle.checks.proofs.Passing.{passed, in-range}
 use Rattle.house.specs.World.{World, Reply}
 use Rattle.house.proofs.Houses.{command-admits}
 use Rattle.commands.specs.Obeying.{replyTo}

@@ -1,7 +1,7 @@
 -- What is heard of a device that meets the demands is the ledger's alone, so two such devices are heard alike. Assumes nothing.
-use Rattle.ground.specs.Kit.{_≡_, refl, sym, ap, _∙_, List, [], _∷_, ℕ, length}
+use Rattle.ground.specs.Kit.{_≡_, refl, sym, ap, _∙_, List, [], _∷_, length}
 use Rattle.disc.specs.Formats.{formatOf, blockBytes, runBytes, discBytes, bufferBytes}
-use Rattle.house.specs.World.{World, inState, Heard}
+use Rattle.house.specs.World.{World, inState, inDisc, Heard}
 use Rattle.house.specs.Theorems.{Ready}
 use Rattle.house.proofs.Houses.{admits}
 use Rattle.drive.specs.Calls.{Call, Feed}
@@ -56,11 +56,11 @@ module _ (d e : Device) (a : Answered d) (b : Answered e) where
       let more = same-from cs (step d r c) (step e q c) (goes-on d a r g c) (goes-on e b q h c) noted-alike in
       ap (λ (x : Heard). x ∷ heardIn d (d .call w c .world) cs) heard ∙ ap (λ (xs : List Heard). e .call v c .heard ∷ xs) more
 
-starts-going : (d : Device) → Answered d → Faithful d → (buffer : List ℕ) → length buffer ≡ bufferBytes → Going d (poweredOn d buffer [])
+starts-going : (d : Device) → Answered d → Faithful d → (w : World) → length (w .buffer) ≡ bufferBytes → Going d (poweredOn d (inDisc w []))
 unfolding discBytes runBytes blockBytes formatOf
-starts-going d a f buffer right =
-    record { ready = rw (a .starts) (record { sound = power-on-sound; buffer = right; disc = refl }); accounted = f .accounted buffer [] }
+starts-going d a f w right =
+    record { ready = rw (a .starts) (record { sound = power-on-sound; buffer = right; disc = refl }); accounted = f .accounted (inDisc w []) }
 
 pub heard-alike : HeardAlike
-heard-alike d e a f b g buffer cs right =
-    same-from d e a b cs (poweredOn d buffer []) (poweredOn e buffer []) (starts-going d a f buffer right) (starts-going e b g buffer right) refl
+heard-alike d e a f b g w cs right =
+    same-from d e a b cs (poweredOn d (inDisc w [])) (poweredOn e (inDisc w [])) (starts-going d a f w right) (starts-going e b g w right) refl

@@ -5,7 +5,7 @@ use Rattle.packet.specs.declared.{Rule.Rule}
 use Rattle.checks.specs.declared.{Verdict.Verdict}
 use Rattle.ground.proofs.Truth.{neither}
 use Rattle.state.specs.Senses.{changeTold, sameB}
-use Rattle.state.specs.States.{insertedOf, ejectedOf, obeyedOf, movedOf}
+use Rattle.state.specs.States.{insertedOf, ejectedOf, obeyedOf}
 use Rattle.packet.specs.Rules.{codeOf}
 use Rattle.packet.proofs.BaseCommands.{freeB, attended}
 use Rattle.checks.specs.Verdicts.{verdict}
@@ -13,9 +13,9 @@ use Rattle.checks.specs.declared.Verdict.the-variants.{Passes, Fails}
 use Rattle.checks.proofs.Passing.{passed}
 use Rattle.house.specs.World.{World, Reply}
 use Rattle.commands.specs.Obeying.{replyTo}
-use Rattle.feeds.proofs.ByTransfer.{by-feeding}
-use Rattle.pulls.proofs.ByTransfer.{by-pulling}
-use Rattle.drive.specs.Calls.{Call, Insert, Eject, Command, Feed, Pull, houseOf, callOf}
+use Rattle.feeds.proofs.ByTransfer.{fed-leaves}
+use Rattle.pulls.proofs.ByTransfer.{pulled-leaves}
+use Rattle.drive.specs.Calls.{Call, Insert, Eject, Command, Feed, Pull, callOf}
 use Rattle.drive.proofs.Calling.{acceptedOf, accepted, by-call, numbered}
 use Rattle.drive.proofs.Commanded.{replied-untold}
 use Rattle.demands.specs.Device.{after, drive}
@@ -38,12 +38,12 @@ module _ (w : World) (on : Changed w) where
   after-verdict p (Passes rule) e = replied-untold w p (Passes rule) refl .change ∙ on
 
   after-accepted : (c : Call) → answersB c (acceptedOf w c .heard) ≡ false → Changed (acceptedOf w c .world)
-  unfolding insertedOf ejectedOf movedOf
+  unfolding insertedOf ejectedOf
   after-accepted (Insert number prot disc) e = refl
   after-accepted Eject e = on
   after-accepted (Command p) e = after-verdict p (verdict (w .state .media) (w .state .host) p) e
-  after-accepted (Feed piece) e = by-feeding w piece (λ a. Changed (a .world)) (λ _. on) (λ _ _. on)
-  after-accepted (Pull out) e = by-pulling w out (λ a. Changed (a .world)) (λ _. on) (λ _ _. on) (λ _ _. on)
+  after-accepted (Feed piece) e = fed-leaves w piece .change ∙ on
+  after-accepted (Pull out) e = pulled-leaves w out .change ∙ on
 
   -- and so does any call that doesn't answer it
   after-any : (c : Call) → answersB c (callOf w c .heard) ≡ false → Changed (callOf w c .world)

@@ -21,9 +21,10 @@ use Rattle.commands.proofs.Judging.{let-in}
 use Rattle.drive.specs.Calls.{Call, Command, Feed, Pull, callOf}
 use Rattle.drive.proofs.Staying.{stays}
 use Rattle.demands.specs.Device.{Device, drive}
+use Rattle.demands.specs.Ledger.{blocksOn}
 use Rattle.demands.specs.Uncut.{
-  Moved,
-  moved,
+  Lent,
+  lent,
   lendAll,
   READ,
   WRITE,
@@ -33,7 +34,6 @@ use Rattle.demands.specs.Uncut.{
   carried,
   carry,
   Part,
-  blocksOn,
   carryAll,
   blocksIn,
   Through,
@@ -252,7 +252,7 @@ module _ (c : Carrying) where
 
       -- all bytes of the transfer move, and it closes
       lent-through :
-          lendAll (c .device) (c .way) opened pieces ≡ moved (runBytes number n) (all .out ++ drop (runBytes number n) (flatten pieces)) (settled w all)
+          lendAll (c .device) (c .way) opened pieces ≡ lent (runBytes number n) (all .out ++ drop (runBytes number n) (flatten pieces)) (settled w all)
       unfolding obeyedOf movedOf
       lent-through =
           let at = runBytes number from in
@@ -275,7 +275,7 @@ module _ (c : Carrying) where
           let room : runBytes number from + length x ≤ length (w .disc) = rw (l, r .disc) within in
           as-commanded w q pieces
           ∙ ap (λ (a : Reply). lendFor a pieces) obeyed
-          ∙ ap (λ (m : Moved). carried true (take (m .count) (m .out)) (m .world)) lent-through
+          ∙ ap (λ (m : Lent). carried true (take (m .count) (m .out)) (m .world)) lent-through
           ∙ rw (take-at (all .out) (drop left (flatten pieces)) left (c .long number (runBytes number from) x (w .buffer) (w .disc) room ∙ l))
 
   -- ---- consecutive commands
@@ -285,7 +285,7 @@ module _ (c : Carrying) where
   carry-ready w q pieces r =
       let v = callOf w (Command q) .world in
       let rv = stays w (Command q) r in
-      let after = subst (λ (l : Moved). Ready (l .world)) (sym (lent-whole (c .lending) v pieces rv)) (c .lending .ready v (flatten pieces) rv) in
+      let after = subst (λ (l : Lent). Ready (l .world)) (sym (lent-whole (c .lending) v pieces rv)) (c .lending .ready v (flatten pieces) rv) in
       subst (λ (y : Carried). Ready (y .world)) (sym (as-commanded w q pieces)) after
 
   module _ (d : Device) (Kept : List (List ℕ) → Type 0) (as-ours : Same (c .way) (c .device) d Kept)

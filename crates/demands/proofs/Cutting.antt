@@ -1,6 +1,6 @@
 -- Data lent whole or cut anywhere are moved alike: any lending moves its first byte as a lending of that byte alone does.
 -- Assumes nothing.
-use Rattle.ground.specs.Kit.{_≡_, refl, sym, ap, subst, _∙_, true, List, [], _∷_, _++_, flatten, append-assoc, append-nil, ℕ, _+_, _-_, _<_, min, zero-add, add-assoc, arith, ne-eqb}
+use Rattle.ground.specs.Kit.{_≡_, sym, ap, subst, _∙_, List, [], _∷_, _++_, flatten, append-assoc, append-nil, ℕ, _+_, _-_, _<_, min, zero-add, add-assoc, arith, ne-eqb}
 use Rattle.state.specs.States.{closedAtZero, movedOf}
 use Rattle.state.specs.declared.Transfer.the-variants.{Answer, Read, Write}
 use Rattle.sound.specs.Soundness.{openSoundB}
@@ -12,7 +12,7 @@ use Rattle.feeds.proofs.ByTransfer.{Feeding, idles, writes, feeding, feeds as f
 use Rattle.pulls.proofs.ByTransfer.{Pulling, idles as unpulled, answers, reads, pulling, pulls as pulled}
 use Rattle.drive.specs.Calls.{Call, Feed, Pull}
 use Rattle.demands.specs.Device.{Device}
-use Rattle.demands.specs.Uncut.{Moved, moved, lendAll, CutAnywhere}
+use Rattle.demands.specs.Uncut.{Lent, lent, lendAll, CutAnywhere}
 use Rattle.demands.proofs.Serving.{
   lendOne,
   join,
@@ -35,7 +35,7 @@ use Rattle.demands.proofs.Serving.{
 
 -- nothing that it serves, or an open transfer, which has at least one byte left
 pub data Lending (d : Device) (way : List ℕ → Call) (w : World) : Type 0 where
-  idle : ((x : List ℕ) → lendOne d way w x ≡ moved 0 x w) → Lending d way w
+  idle : ((x : List ℕ) → lendOne d way w x ≡ lent 0 x w) → Lending d way w
   busy : {k : Kind} → Serves d way k → (at left : ℕ) → 0 < left → w .state .transfer ≡ k .transfer at left → Lending d way w
 
 module _ (w : World) (r : Ready w) where
@@ -60,9 +60,9 @@ module _ (w : World) (r : Ready w) where
 -- ---- cut after the first byte
 
 -- two lendings that are known, one after the other
-then : (d : Device) (way : List ℕ → Call) (w : World) (x y : List ℕ) (one two : Moved) → lendOne d way w x ≡ one
+then : (d : Device) (way : List ℕ → Call) (w : World) (x y : List ℕ) (one two : Lent) → lendOne d way w x ≡ one
     → lendOne d way (one .world) y ≡ two → join (lendOne d way w x) (lendOne d way (lendOne d way w x .world) y) ≡ join one two
-then d way w x y one two e f = ap (λ (l : Moved). join l (lendOne d way (l .world) y)) e ∙ ap (join one) f
+then d way w x y one two e f = ap (λ (l : Lent). join l (lendOne d way (l .world) y)) e ∙ ap (join one) f
 
 module _ {d : Device} {way : List ℕ → Call} (w : World) (r : Ready w) where
   -- what is open has not closed
@@ -71,7 +71,7 @@ module _ {d : Device} {way : List ℕ → Call} (w : World) (r : Ready w) where
   stands s at left some e = e ∙ rw (s .left at left, ne-eqb left 0 (λ z. omega arith))
 
   -- to lend nothing changes nothing
-  nothing : Lending d way w → lendOne d way w [] ≡ moved 0 [] w
+  nothing : Lending d way w → lendOne d way w [] ≡ lent 0 [] w
   nothing (idle same) = same []
   nothing (busy s at left some e) =
       let st = stands s at left some e in
@@ -88,7 +88,7 @@ module _ {d : Device} {way : List ℕ → Call} (w : World) (r : Ready w) where
       let one = lends s w at left st (x ∷ []) r in
       let n : min 1 left ≡ 1 = omega arith in
       let v = moving k w at left (x ∷ []) .world in
-      let two = lends s v (at + 1) (left - 1) (rw n (s .goes .stands (w .state) _ (at + 1) (left - 1))) xs (subst (λ (l : Moved). Ready (l .world)) one r₁) in
+      let two = lends s v (at + 1) (left - 1) (rw n (s .goes .stands (w .state) _ (at + 1) (left - 1))) xs (subst (λ (l : Lent). Ready (l .world)) one r₁) in
       lends s w at left st (x ∷ xs) r ∙ first-moves s w at left x xs some ∙ sym (then d way w (x ∷ []) xs _ _ one two)
 
 -- ---- cut anywhere
@@ -100,11 +100,11 @@ pub record Way (d : Device) (way : List ℕ → Call) : Type 0 where
 
 module _ {d : Device} {way : List ℕ → Call} (y : Way d way) where
   -- pieces after a lending
-  abbrev onward : Moved → List (List ℕ) → Moved
+  abbrev onward : Lent → List (List ℕ) → Lent
   onward l xs = join l (lendAll d way (l .world) xs)
 
   -- they may follow two lendings or the second of them
-  onward-join : (one two : Moved) (xs : List (List ℕ)) → onward (join one two) xs ≡ join one (onward two xs)
+  onward-join : (one two : Lent) (xs : List (List ℕ)) → onward (join one two) xs ≡ join one (onward two xs)
   onward-join one two xs =
       let rest = lendAll d way (two .world) xs in
       rw (add-assoc (one .count) (two .count) (rest .count), append-assoc (one .out) (two .out) (rest .out))
@@ -114,12 +114,12 @@ module _ {d : Device} {way : List ℕ → Call} (y : Way d way) where
       → ((v : World) → Ready v → lendAll d way v xs ≡ lendOne d way v (flatten xs)) → Ready w
       → lendAll d way w (x ∷ xs) ≡ lendOne d way w (x ++ flatten xs)
   piece-joins w [] xs rest r =
-      ap (λ (l : Moved). onward l xs) (nothing w r (y .finds w r)) ∙ rw (zero-add (lendAll d way w xs .count)) (rest w r)
+      ap (λ (l : Lent). onward l xs) (nothing w r (y .finds w r)) ∙ rw (zero-add (lendAll d way w xs .count)) (rest w r)
   piece-joins w (x ∷ xs) ys rest r =
       let one = lendOne d way w (x ∷ []) in
       let r₁ = y .ready w (x ∷ []) r in
       let first-of = first w r (y .finds w r) x in
-      ap (λ (l : Moved). onward l ys) (first-of xs r₁)
+      ap (λ (l : Lent). onward l ys) (first-of xs r₁)
       ∙ onward-join one (lendOne d way (one .world) xs) ys
       ∙ ap (join one) (piece-joins (one .world) xs ys rest r₁)
       ∙ sym (first-of (xs ++ flatten ys) r₁)

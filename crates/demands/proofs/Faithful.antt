@@ -1,5 +1,5 @@
 -- Demand 2 of our drive. Assumes nothing.
-use Rattle.ground.specs.Kit.{_≡_, refl, sym, ap, _∙_, true, List, [], _∷_, ℕ, ne-eqb}
+use Rattle.ground.specs.Kit.{_≡_, refl, ap, _∙_, true, List, [], _∷_, ℕ, ne-eqb}
 use Rattle.state.specs.declared.{Media.Media}
 use Rattle.sound.specs.Soundness.{soundB}
 use Rattle.checks.specs.Verdicts.{verdict}
@@ -57,6 +57,6 @@ pub faithful : Faithful drive
 faithful =
     record {
       judged = judged;
-      accounted = λ buffer disc cs. accounted cs _ _ power-on-sound (record { media = refl; host = refl; disc = λ some. absurd (some refl); opened = shut _ _ _ _ });
+      accounted = λ w cs. accounted cs _ _ power-on-sound (record { media = refl; host = refl; disc = λ some. absurd (some refl); opened = shut _ _ _ _ });
       announced = announced;
     }

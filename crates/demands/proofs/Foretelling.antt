@@ -3,10 +3,10 @@ use Rattle.ground.specs.Kit.{_≡_, refl, sym, ap, _∙_, Bool, true, false, co
 use Rattle.state.specs.declared.{Sense.Sense, Media.Media, Transfer.Transfer}
 use Rattle.checks.specs.declared.{Verdict.Verdict}
 use Rattle.state.specs.Senses.{noDisc}
-use Rattle.state.specs.States.{leftOf, isOpenB, senseAfter, insertedOf, ejectedOf, obeyedOf}
+use Rattle.state.specs.States.{leftOf, senseAfter, insertedOf, ejectedOf, obeyedOf}
 use Rattle.sound.specs.Soundness.{openSoundB, soundB}
 use Rattle.sound.proofs.Keeping.{parts}
-use Rattle.sound.proofs.Opened.{some-left, none-left}
+use Rattle.sound.proofs.Opened.{open-left}
 use Rattle.checks.specs.declared.Verdict.the-variants.{Passes, Fails}
 use Rattle.checks.specs.Verdicts.{verdict}
 use Rattle.house.specs.World.{World, inState, Heard, heard, Reply}
@@ -59,11 +59,11 @@ by-verdict w p (Passes rule) = rw (performed-sense w p rule)
 
 -- an ejection tells whether anything was left
 broken-off : (m : Media) (sense : Sense) (t : Transfer) → openSoundB m t ≡ true → senseAfter sense t ≡ cond (eqb (leftOf t) 0) sense noDisc
-broken-off m sense t s = here (isOpenB t) refl
+broken-off m sense t s = rw (open-left m t s) (here (eqb (leftOf t) 0))
   where
-    here : (b : Bool) → isOpenB t ≡ b → cond b noDisc sense ≡ cond (eqb (leftOf t) 0) sense noDisc
-    here true q = let some = some-left m t s q in rw (ne-eqb (leftOf t) 0 (λ z. omega arith))
-    here false q = rw (none-left t q)
+    here : (b : Bool) → cond (not b) noDisc sense ≡ cond b sense noDisc
+    here true = refl
+    here false = refl
 
 -- nothing is left exactly if there is neither a byte to take nor one to give
 nothing-left : (A : Type 0) (x y : A) (a b c : ℕ) → a + b ≡ c → cond (eqb c 0) x y ≡ cond (not (eqb a 0) || not (eqb b 0)) y x

@@ -2,7 +2,7 @@
 use Rattle.ground.specs.Kit.{_≡_, refl, sym, ap, _∙_, Bool, true, false, List, [], _∷_, _++_, flatten, ℕ, suc, _+_, _*_, _<_, _≤_, add-mul, one-mul, lt-of-mul-lt-mul-right, add-one, arith, eqb-true, eqb-false, eqb, length, take, set, length-set, length-append, paste, take-all, take-suc-set}
 use Rattle.feeds.specs.Feeding.{Writing, writing, feedByte, feedBytes}
 use Rattle.feeds.proofs.Feeding.{at-byte, feed-inside, feed-last, byte-lengths}
-use Rattle.demands.specs.Ledger.{Store, store, nextBlock, gatherByte, gather}
+use Rattle.demands.specs.Ledger.{Store, store, blocksOn, gatherByte, gather}
 use Rattle.demands.proofs.BlockLists.{Even, even-length, set-even, set-block}
 
 module _ (b : ℕ) where
@@ -53,7 +53,7 @@ module _ (b : ℕ) where
     on-disc : s .block .0 < length (s .blocks)
     on-disc = lt-of-mul-lt-mul-right b (omega (arith, g .at, room, ap length (g .disc), even-length b (s .blocks) (g .even)))
 
-    last : length more ≡ b → Gathered (store (set (s .blocks) (s .block .0) more) (nextBlock (s .block)) []) (feedByte b w x)
+    last : length more ≡ b → Gathered (store (set (s .blocks) (s .block .0) more) (blocksOn (s .block) 1) []) (feedByte b w x)
     last h =
         let e : feedByte b w x ≡ writing (at-byte (s .block .0 * b + suc (length (s .got)))) buffer (paste (w .disc) (s .block .0 * b) buffer b) =
         ap (λ (at : ℕ). feedByte b (place at) x) (g .at)

@@ -1,8 +1,9 @@
 -- What wrong devices obey all the same. Assumes nothing.
-use Rattle.ground.specs.Kit.{_≡_, refl, sym, ap, _∙_, Bool, true, false, List, [], _∷_, _++_, ℕ, suc, _+_, add-zero, arith, eqb, length, take, set, replicate, length-replicate, replicate-append-replicate, sets, length-sets}
-use Rattle.state.specs.declared.{Transfer.Transfer}
+use Rattle.ground.specs.Kit.{_≡_, refl, sym, ap, _∙_, Bool, true, false, List, [], _∷_, _++_, ℕ, _+_, arith, eqb, length, take, replicate, length-replicate, replicate-append-replicate, sets, length-sets}
+use Rattle.state.specs.declared.{DiscAt.DiscAt, Transfer.Transfer}
+use Rattle.ground.proofs.Parts.{sets-more}
 use Rattle.state.specs.declared.Transfer.the-variants.{Closed, Answer as AnswerFrom, Read, Write}
-use Rattle.state.specs.States.{stateOf, movedOf}
+use Rattle.state.specs.States.{stateOf}
 use Rattle.house.specs.World.{World, inState, inDisc}
 use Rattle.house.specs.Theorems.{Ready}
 use Rattle.house.proofs.Houses.{ready-in}
@@ -10,7 +11,7 @@ use Rattle.drive.specs.Calls.{Command, Feed, Pull, callOf}
 use Rattle.drive.proofs.Calling.{numbered}
 use Rattle.drive.proofs.Staying.{keeps, fed-media}
 use Rattle.demands.specs.Device.{Device, drive}
-use Rattle.demands.specs.Uncut.{Moved, moved, carried, Part}
+use Rattle.demands.specs.Uncut.{Lent, lent, carried, Part}
 use Rattle.demands.specs.Wrong.{handsOutZeros, discardsFeeds, firstBlockOnly, firstPullOnly, pulledOnce, versionOne, storedAt, versionThree, OnePullEach, Obeyed}
 use Rattle.demands.proofs.Serving.{lendOne, Puts, written, Feeds, ourPuts, our-feeds, Gives, Given, Pulls, fromDisc, fromBuffer, our-pulls}
 use Rattle.demands.proofs.Cutting.{cut-anywhere, feed-way, pull-way}
@@ -22,8 +23,7 @@ module _ (d : Device) where
   feeds-as : ((w : World) (x : List ℕ) → d .call w (Feed x) ≡ callOf w (Feed x)) → Feeds d ourPuts
   feeds-as same =
       record {
-        none = our-feeds .none;
-        more = our-feeds .more;
+        put = our-feeds .put;
         ready = λ w x r. rw (same w x) (our-feeds .ready w x r);
         unfed = λ w x e. rw (same w x) (our-feeds .unfed w x e);
         fed = λ w p x e f. rw (same w x) (our-feeds .fed w p x e f);
@@ -71,12 +71,6 @@ discards number at x buffer disc = written buffer disc
 abbrev stores : Puts
 stores number at x buffer disc = written buffer (sets disc at x)
 
-sets-more : (x y disc : List ℕ) (at : ℕ) → sets disc at (x ++ y) ≡ sets (sets disc at x) (at + length x) y
-sets-more [] y disc at = rw (add-zero at)
-sets-more (b ∷ x) y disc at =
-    let e : at + suc (length x) ≡ suc at + length x = omega arith in
-    rw e (sets-more x y (set disc at b) (suc at))
-
 module _ (w : World) (x : List ℕ) (r : Ready w) where
   -- after a feed that leaves the block buffer, and a disc as long as it was
   still-ready : (disc : List ℕ) → length disc ≡ length (w .disc) → Ready (inDisc (inState w (callOf w (Feed x) .world .state)) disc)
@@ -94,31 +88,30 @@ discarded : Feeds discardsFeeds discards
 unfolding callOf
 discarded =
     record {
-      none = λ number at buffer disc. refl;
-      more = λ number at x y buffer disc. refl;
+      put = record { none = λ number at buffer disc. refl; more = λ number at x y buffer disc. refl };
       ready = λ w x r. rw (accepted w x r) (still-ready w x r (w .disc) refl);
       unfed = λ w x e. rw e;
       fed = λ w p x e f. rw e;
     }
 
+-- what holds of bytes set on the disc and of the disc as it was
+by-stored : (P : List ℕ → Type 0) (t : Transfer) (disc x : List ℕ) (n : ℕ) → ((p : DiscAt) → P (sets disc (p .at .0) (take n x))) → P disc → P (storedAt t disc x n)
+by-stored P Closed disc x n writes other = other
+by-stored P (AnswerFrom p) disc x n writes other = other
+by-stored P (Read p) disc x n writes other = other
+by-stored P (Write p) disc x n writes other = writes p
+
 stored-none : (t : Transfer) (disc x : List ℕ) → storedAt t disc x 0 ≡ disc
-stored-none Closed disc x = refl
-stored-none (AnswerFrom p) disc x = refl
-stored-none (Read p) disc x = refl
-stored-none (Write p) disc x = refl
+stored-none t disc x = by-stored (λ l. l ≡ disc) t disc x 0 (λ p. refl) refl
 
 stored-length : (t : Transfer) (disc x : List ℕ) (n : ℕ) → length (storedAt t disc x n) ≡ length disc
-stored-length Closed disc x n = refl
-stored-length (AnswerFrom p) disc x n = refl
-stored-length (Read p) disc x n = refl
-stored-length (Write p) disc x n = length-sets disc (p .at .0) (take n x)
+stored-length t disc x n = by-stored (λ l. length l ≡ length disc) t disc x n (λ p. length-sets disc (p .at .0) (take n x)) refl
 
 stored : Feeds versionThree stores
 unfolding callOf
 stored =
     record {
-      none = λ number at buffer disc. refl;
-      more = λ number at x y buffer disc. rw (sets-more x y disc at);
+      put = record { none = λ number at buffer disc. refl; more = λ number at x y buffer disc. rw (sets-more x y disc at) };
       ready = λ w x r. rw (accepted w x r) (still-ready w x r _ (stored-length (w .state .transfer) (w .disc) x (callOf w (Feed x) .heard .count)));
       unfed = λ w x e. rw (e, stored-none (w .state .transfer) (w .disc) x);
       fed = λ w p x e f. rw (e, f);
@@ -136,7 +129,7 @@ closing-pull w x closed = here (eqb (callOf w (Pull x) .heard .house) 0) refl
     here true q =
         let a = callOf w (Pull x) in
         let v = a .world in
-        let left : Transfer → Moved = λ t. moved (a .heard .count) (a .heard .out) (inState v (stateOf (v .state .media) (v .state .motor) (v .state .host) t)) in
+        let left : Transfer → Lent = λ t. lent (a .heard .count) (a .heard .out) (inState v (stateOf (v .state .media) (v .state .motor) (v .state .host) t)) in
         rw q (ap left (ap pulledOnce closed ∙ sym closed))
 
 one-pull : Same Pull drive firstPullOnly (λ pieces. length pieces ≡ 1)
@@ -144,7 +137,7 @@ one-pull w q [] one closed = absurd (omega arith)
 one-pull w q (x ∷ (y ∷ ys)) one closed = absurd (omega arith)
 one-pull w q (x ∷ []) one closed =
     let v = callOf w (Command q) in
-    ap (λ (l : Moved). carried (v .heard .passed) (take (l .count + 0) (l .out ++ [])) (l .world)) (closing-pull (v .world) x closed)
+    ap (λ (l : Lent). carried (v .heard .passed) (take (l .count + 0) (l .out ++ [])) (l .world)) (closing-pull (v .world) x closed)
 
 one-each : (parts : List Part) → OnePullEach parts → All (λ pieces. length pieces ≡ 1) parts
 one-each [] e = tt

@@ -15,17 +15,17 @@ use Rattle.pulls.proofs.ByTransfer.{pulls, pulls-answer, pulls-read}
 use Rattle.drive.specs.Calls.{Call, Feed, Pull, callOf}
 use Rattle.drive.proofs.Staying.{stays}
 use Rattle.demands.specs.Device.{Device, drive}
-use Rattle.demands.specs.Uncut.{Moved, moved}
+use Rattle.demands.specs.Uncut.{Lent, lent}
 
 -- one call
-abbrev pub lendOne : Device → (List ℕ → Call) → World → List ℕ → Moved
+abbrev pub lendOne : Device → (List ℕ → Call) → World → List ℕ → Lent
 lendOne d way w x =
     let a = d .call w (way x) in
-    moved (a .heard .count) (a .heard .out) (a .world)
+    lent (a .heard .count) (a .heard .out) (a .world)
 
 -- one lending after the other
-abbrev pub join : Moved → Moved → Moved
-join one two = moved (one .count + two .count) (one .out ++ two .out) (two .world)
+abbrev pub join : Lent → Lent → Lent
+join one two = lent (one .count + two .count) (one .out ++ two .out) (two .world)
 
 -- the piece or the caller's buffer, the block buffer and the disc, after bytes have moved
 pub record Bytes : Type 0 where
@@ -52,11 +52,11 @@ pub record Kind : Type 0 where
   pub next : State → List ℕ → ℕ → ℕ → State
 
 -- what it makes of a piece
-abbrev pub moving : Kind → World → ℕ → ℕ → List ℕ → Moved
+abbrev pub moving : Kind → World → ℕ → ℕ → List ℕ → Lent
 moving k w at left x =
     let n = min (length x) left in
     let b = k .does (w .state .media .disc) at n x (w .buffer) (w .disc) in
-    moved n (b .out) (inDisc (inBuffer (inState w (k .next (w .state) (b .buffer) (at + n) (left - n))) (b .buffer)) (b .disc))
+    lent n (b .out) (inDisc (inBuffer (inState w (k .next (w .state) (b .buffer) (at + n) (left - n))) (b .buffer)) (b .disc))
 
 -- the next state has the transfer on its way, the disc still in, and is made of the state before alone
 pub record GoesOn (transfer : ℕ → ℕ → Transfer) (next : State → List ℕ → ℕ → ℕ → State) : Type 0 where
@@ -89,7 +89,7 @@ pub record Serves (d : Device) (way : List ℕ → Call) (k : Kind) : Type 0 whe
       → let one = k .does number at (length x) x buffer disc in
       let two = k .does number (at + length x) m y (one .buffer) (one .disc) in
       k .does number at (length x + m) (x ++ y) buffer disc ≡ bytes (one .out ++ two .out) (two .buffer) (two .disc)
-  pub closed : (w : World) (x : List ℕ) → Ready w → w .state .transfer ≡ Closed → lendOne d way w x ≡ moved 0 x w
+  pub closed : (w : World) (x : List ℕ) → Ready w → w .state .transfer ≡ Closed → lendOne d way w x ≡ lent 0 x w
   pub opened : (w : World) (at left : ℕ) (x : List ℕ) → Ready w → w .state .transfer ≡ k .transfer at left → lendOne d way w x ≡ moving k w at left x
 
 module _ {d : Device} {way : List ℕ → Call} {k : Kind} (s : Serves d way k) (w : World) (at left : ℕ) where
@@ -106,9 +106,9 @@ module _ {d : Device} {way : List ℕ → Call} {k : Kind} (s : Serves d way k) 
       let number = w .state .media .disc in
       let one = k .does number at 1 (x ∷ []) (w .buffer) (w .disc) in
       let then = k .next (w .state) (one .buffer) (at + 1) (left - 1) in
-      let both : ℕ → Moved = λ m.
+      let both : ℕ → Lent = λ m.
       let two = k .does m (at + 1) n xs (one .buffer) (one .disc) in
-      moved (1 + n) (one .out ++ two .out)
+      lent (1 + n) (one .out ++ two .out)
       (inDisc (inBuffer (inState w (k .next then (two .buffer) (at + 1 + n) (left - 1 - n))) (two .buffer)) (two .disc)) in
       let first : moving k w at left (x ∷ xs) ≡ both number =
       rw (e₁, e₃, e₄, s .more number at n (x ∷ []) xs (w .buffer) (w .disc), s .goes .again (w .state) (one .buffer) _ (at + 1) (left - 1) (at + 1 + n) (left - 1 - n)) in
@@ -116,7 +116,7 @@ module _ {d : Device} {way : List ℕ → Call} {k : Kind} (s : Serves d way k) 
 
   module _ (stands : w .state .transfer ≡ closedAtZero (k .transfer at left)) where
     -- where no byte is to move nothing changes
-    pub unmoved : (x : List ℕ) → min (length x) left ≡ 0 → moving k w at left x ≡ moved 0 x w
+    pub unmoved : (x : List ℕ) → min (length x) left ≡ 0 → moving k w at left x ≡ lent 0 x w
     unmoved x z =
         rw (z, s .none (w .state .media .disc) at x (w .buffer) (w .disc), add-zero at, sub-zero left, s .goes .same (w .state) (w .buffer) at left stands)
 
@@ -136,43 +136,54 @@ module _ {d : Device} {way : List ℕ → Call} {k : Kind} (s : Serves d way k) 
 abbrev pub Puts : Type 0
 Puts = ℕ → ℕ → List ℕ → List ℕ → List ℕ → Written
 
-abbrev writeAt : ℕ → ℕ → Transfer
-writeAt at left = Write (record { at = at-byte at; left = left })
-
-abbrev pub feeding : Puts → Kind
-feeding puts =
+abbrev putting : (ℕ → ℕ → Transfer) → Puts → Kind
+putting transfer puts =
     record {
-      transfer = writeAt;
-      next = onlyMoves writeAt;
+      transfer = transfer;
+      next = onlyMoves transfer;
       does = λ number at n x buffer disc.
           let v = puts number at (take n x) buffer disc in
           bytes x (v .buffer) (v .disc);
     }
 
--- a device that puts them so: without an open write nothing moves
-pub record Feeds (d : Device) (puts : Puts) : Type 0 where
+abbrev pub feeding : Puts → Kind
+feeding = putting (λ at left. Write (record { at = at-byte at; left = left }))
+
+-- bytes put in two parts are put as they are at once
+pub record Put (puts : Puts) : Type 0 where
   pub none : (number at : ℕ) (buffer disc : List ℕ) → puts number at [] buffer disc ≡ written buffer disc
   pub more :
       (number at : ℕ) (x y buffer disc : List ℕ)
       → let one = puts number at x buffer disc in
       puts number at (x ++ y) buffer disc ≡ puts number (at + length x) y (one .buffer) (one .disc)
+
+-- a device that puts them so: without an open write nothing moves
+pub record Feeds (d : Device) (puts : Puts) : Type 0 where
+  pub put : Put puts
   pub ready : (w : World) (x : List ℕ) → Ready w → Ready (d .call w (Feed x) .world)
-  pub unfed : (w : World) (x : List ℕ) → feedOf w x ≡ idle w x → lendOne d Feed w x ≡ moved 0 x w
+  pub unfed : (w : World) (x : List ℕ) → feedOf w x ≡ idle w x → lendOne d Feed w x ≡ lent 0 x w
   pub fed :
       (w : World) (p : DiscAt) (x : List ℕ) → feedOf w x ≡ writeFed p w x → w .state .transfer ≡ Write p
       → lendOne d Feed w x ≡ moving (feeding puts) w (p .at .0) (p .left) x
 
--- serves a write
-pub feed-served : {d : Device} {puts : Puts} → Feeds d puts → Serves d Feed (feeding puts)
-feed-served {d} {puts} f =
-    record {
-      left = λ at left. refl;
-      goes = only-moves writeAt;
-      none = λ number at x buffer disc. rw (f .none number at buffer disc);
-      more = λ number at m x y buffer disc. rw (take-append-add x y m, take-length x, f .more number at x (take m y) buffer disc);
-      closed = λ w x r e. f .unfed w x (feeds w x r ∙ rw e);
-      opened = λ w at left x r e. f .fed w _ x (sym (feeds-write w x r _ e)) e;
-    }
+-- serves it
+module _ {d : Device} {puts : Puts} (f : Feeds d puts) where
+  put-served : (transfer : ℕ → ℕ → Transfer) (puts : Puts) → Put puts → ((at left : ℕ) → leftOf (transfer at left) ≡ left)
+      → ((w : World) (at left : ℕ) (x : List ℕ) → Ready w → w .state .transfer ≡ transfer at left
+      → lendOne d Feed w x ≡ moving (putting transfer puts) w at left x)
+      → Serves d Feed (putting transfer puts)
+  put-served transfer puts g left opened =
+      record {
+        left = left;
+        goes = only-moves transfer;
+        none = λ number at x buffer disc. rw (g .none number at buffer disc);
+        more = λ number at m x y buffer disc. rw (take-append-add x y m, take-length x, g .more number at x (take m y) buffer disc);
+        closed = λ w x r e. f .unfed w x (feeds w x r ∙ rw e);
+        opened = opened;
+      }
+
+  pub feed-served : Serves d Feed (feeding puts)
+  feed-served = put-served (feeding puts .transfer) puts (f .put) (λ at left. refl) (λ w at left x r e. f .fed w _ x (sym (feeds-write w x r _ e)) e)
 
 -- ours: to the block buffer and on to the disc
 abbrev pub ourPuts : Puts
@@ -180,15 +191,21 @@ ourPuts number at x buffer disc =
     let v = feedBytes (blockBytes number) (writing (at-byte at) buffer disc) x in
     written (v .buffer) (v .disc)
 
-pub our-feeds : Feeds drive ourPuts
-unfolding callOf
-our-feeds =
+our-put : Put ourPuts
+our-put =
     record {
       none = λ number at buffer disc. refl;
       more = λ number at x y buffer disc.
           let b = blockBytes number in
           let v = writing (at-byte at) buffer disc in
           rw (feed-append b v x y, ← feed-at b v x);
+    }
+
+pub our-feeds : Feeds drive ourPuts
+unfolding callOf
+our-feeds =
+    record {
+      put = our-put;
       ready = λ w x. stays w (Feed x);
       unfed = λ w x e. rw e;
       fed = λ w p x e f. rw e;
@@ -220,7 +237,7 @@ pub record Pulls (d : Device) (reads answers : Gives) : Type 0 where
   pub read-given : Given reads
   pub answer-given : Given answers
   pub ready : (w : World) (x : List ℕ) → Ready w → Ready (d .call w (Pull x) .world)
-  pub unpulled : (w : World) (x : List ℕ) → pullOf w x ≡ idle w x → lendOne d Pull w x ≡ moved 0 x w
+  pub unpulled : (w : World) (x : List ℕ) → pullOf w x ≡ idle w x → lendOne d Pull w x ≡ lent 0 x w
   pub from-read :
       (w : World) (p : DiscAt) (x : List ℕ) → pullOf w x ≡ readPulled p w x
       → lendOne d Pull w x ≡ moving (reading reads) w (p .at .0) (p .left) x

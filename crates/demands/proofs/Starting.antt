@@ -12,7 +12,7 @@ use Rattle.packet.specs.Rules.{rules, ruleOf}
 use Rattle.checks.specs.Verdicts.{inMaskB, checksOf, verdict}
 use Rattle.answer.specs.Answers.{inquiryData}
 use Rattle.answer.specs.Giving.{answerOf, allocationOf, giveOf}
-use Rattle.house.specs.World.{World, world, Heard, Reply, reply}
+use Rattle.house.specs.World.{World, inState, inDisc, Heard, Reply, reply}
 use Rattle.house.specs.Refusals.{moveTests, commandTests, insertTests}
 use Rattle.commands.specs.Events.{insertOf}
 use Rattle.commands.specs.Obeying.{spanOf, performedOf, commandOf}
@@ -68,14 +68,14 @@ passes w = reply 0 true 0 [] w
 abbrev leaves : World → Reply
 leaves w = reply 0 false 0 [] w
 
-module _ (buffer disc : List ℕ) where
+module _ (w : World) (disc : List ℕ) where
   -- disc 4 is in, unprotected, with the motor off
   abbrev with4 : Bool → Bool → Sense → Transfer → World
-  with4 power change sense t = world (stateOf (mediaOf 4 false) false (hostOf power change sense) t) buffer disc
+  with4 power change sense t = inDisc (inState w (stateOf (mediaOf 4 false) false (hostOf power change sense) t)) disc
 
   -- before and after the insertion; after power-on, and after the change too is told; after a command that passed
   abbrev pub empty : World
-  empty = world powerOn buffer []
+  empty = inDisc (inState w powerOn) []
 
   abbrev pub inserted : Bool → World
   inserted change = with4 true change noSense Closed
@@ -120,7 +120,7 @@ module _ (buffer disc : List ℕ) where
     pub feeds-one : (piece : List ℕ) → callOf (obeyed (writing 512)) (Feed piece) ≡ feedBy (writing 512) (obeyed (writing 512)) piece
 
   -- by computation, over any bytes
-  pub ours : length buffer ≡ bufferBytes → length disc ≡ 32768 → Ours
+  pub ours : length (w .buffer) ≡ bufferBytes → length disc ≡ 32768 → Ours
   unfolding callOf formatOf blockBytes runBytes discBytes placeOf masks maskRow namedB insertedOf obeyedOf onDiscB endsOnBlockB openSoundB soundB addressOf lengthOf rules ruleOf inMaskB checksOf verdict inquiryData answerOf allocationOf giveOf moveTests commandTests insertTests insertOf spanOf performedOf commandOf movedOf feedOf pullOf
   ours b d =
       record {
@@ -157,7 +157,7 @@ module _ (buffer disc : List ℕ) where
     device = record { start = powerOn; call = call }
 
     -- the disc goes in, and both attentions are told
-    run-told : run device (poweredOn device buffer []) (Insert 4 false disc ∷ Command test ∷ Command test ∷ []) ≡ with-told
+    run-told : run device (poweredOn device (inDisc w [])) (Insert 4 false disc ∷ Command test ∷ Command test ∷ []) ≡ with-told
     unfolding noted formatOf blockBytes
     run-told = rw (s .inserts, s .tells-power true, s .tells-change)
 
@@ -166,7 +166,7 @@ module _ (buffer disc : List ℕ) where
       from-told : (cs : List Call) → Accounted device (run device with-told cs)
       from-told cs =
           subst (λ (r : Run). Accounted device (run device r cs)) run-told
-          (f .accounted buffer [] (Insert 4 false disc ∷ Command test ∷ Command test ∷ cs))
+          (f .accounted (inDisc w []) (Insert 4 false disc ∷ Command test ∷ Command test ∷ cs))
 
       -- the READ is to give the first block
       pub from-reading : (cs : List Call) → call told (Command read) ≡ passes (obeyed (reading 0 512))

@@ -14,4 +14,4 @@ pub demands : Demands drive
 demands = record { answered = answered; faithful = faithful; uncut = uncut }
 
 pub told-apart : ToldApart
-told-apart d buffer cs right apart a f = apart (heard-alike d drive a f answered faithful buffer cs right)
+told-apart d w cs right apart a f = apart (heard-alike d drive a f answered faithful w cs right)

@@ -5,7 +5,7 @@ use Rattle.ground.specs.Kit.{_≡_, Bool, true, false, cond, not, _&&_, _||_, L
 use Rattle.state.specs.Senses.{changeTold, noDisc, sameB}
 use Rattle.packet.specs.Rules.{codeOf}
 use Rattle.checks.specs.Verdicts.{verdict}
-use Rattle.house.specs.World.{World, world, inState, Heard, heard}
+use Rattle.house.specs.World.{World, inState, Heard, heard}
 use Rattle.drive.specs.Calls.{Call, Insert, Eject, Command, Feed, Pull, returned, houseOf}
 use Rattle.demands.specs.Device.{Device, after}
 use Rattle.demands.specs.Answered.{judgedOf}
@@ -29,16 +29,16 @@ abbrev pub run : Device → Run → List Call → Run
 run d r [] = r
 run d r (c ∷ cs) = run d (step d r c) cs
 
--- power-on, with any block buffer and any disc lent
-abbrev pub poweredOn : Device → List ℕ → List ℕ → Run
-poweredOn d buffer disc = record { world = world (d .start) buffer disc; ledger = blank }
+-- power-on, whatever is lent
+abbrev pub poweredOn : Device → World → Run
+poweredOn d w = record { world = inState w (d .start); ledger = blank }
 
 -- whether a transfer is open
 abbrev pub openB : Ledger → Bool
 openB l = not (eqb (l .left) 0) || not (eqb (length (l .coming)) 0)
 
--- what is heard of an accepted call: by the checks A to H; "A feed takes the first min(piece, left) bytes"; "A pull fills the first
--- min(buffer, left) bytes of the lent buffer, leaves its tail .. and reports that count."
+-- what is heard of an accepted call: by the checks A to H; "A feed takes the first min(piece, left) bytes", and its triple is the ledger's
+-- afterwards; "A pull fills the first min(buffer, left) bytes of the lent buffer, leaves its tail .. and reports that count."
 abbrev pub foretells : Ledger → Call → Heard
 foretells l (Insert number prot disc) = heard 0 false (l .host .sense) 0 []
 foretells l Eject = heard 0 false (cond (openB l) noDisc (l .host .sense)) 0 []
@@ -84,7 +84,7 @@ pub record Faithful (d : Device) : Type 0 where
       → let h = d .call w (Command p) .heard in
       h .house ≡ 0 → record { passed = h .passed; sense = h .sense } ≡ judgedOf (verdict (w .state .media) (w .state .host) p)
   -- "While only our calls touch the disc": in every run from power-on
-  pub accounted : (buffer disc : List ℕ) (cs : List Call) → Accounted d (run d (poweredOn d buffer disc) cs)
+  pub accounted : (w : World) (cs : List Call) → Accounted d (run d (poweredOn d w) cs)
   -- "After an accepted insertion, .. only INQUIRY and REQUEST SENSE pass until some command has answered 06 28 00.": in every world, after any
   -- calls, further events among them
   pub announced : (w : World) (number : ℕ) (prot : Bool) (disc : List ℕ) (cs : List Call) (p : List ℕ)

@@ -1,12 +1,12 @@
 -- The ledger: an account kept from the calls and from what was heard, and from nothing else.
-use Rattle.ground.specs.Kit.{Bool, true, false, cond, List, [], _∷_, _++_, flatten, ℕ, zero, suc, _+_, _-_, eqb, length, take, drop, set}
+use Rattle.ground.specs.Kit.{true, false, cond, not, _&&_, List, [], _∷_, _++_, flatten, ℕ, zero, suc, _+_, _-_, eqb, length, take, drop, set}
 use Rattle.disc.specs.declared.{BlockAddress.BlockAddress}
-use Rattle.state.specs.declared.{Media.Media, Host.Host, State.State}
+use Rattle.state.specs.declared.{Sense.Sense, Media.Media, Host.Host, State.State}
 use Rattle.packet.specs.declared.{Known.Known, Routine.Routine}
 use Rattle.disc.specs.Formats.{formatOf, blockBytes, runBytes}
 use Rattle.state.specs.declared.Transfer.the-variants.{Closed}
-use Rattle.state.specs.Senses.{noSense}
-use Rattle.state.specs.States.{mediaOf, hostOf, stateOf, noMedia, told}
+use Rattle.state.specs.Senses.{triple, noSense, sameB}
+use Rattle.state.specs.States.{mediaOf, hostOf, stateOf, noMedia}
 use Rattle.packet.specs.Fields.{addressOf, lengthOf}
 use Rattle.packet.specs.Rules.{ruleOf}
 use Rattle.packet.specs.declared.Known.the-variants.{Unknown, Base}
@@ -51,18 +51,24 @@ abbrev pub blocksOf : ℕ → ℕ → List ℕ → List (List ℕ)
 blocksOf size zero disc = []
 blocksOf size (suc n) disc = take size disc ∷ blocksOf size n (drop size disc)
 
-abbrev pub nextBlock : BlockAddress → BlockAddress
-nextBlock k = record { 0 = k .0 + 1 }
+-- so many blocks further on
+abbrev pub blocksOn : BlockAddress → ℕ → BlockAddress
+blocksOn k n = record { 0 = k .0 + n }
 
 -- "stored whole": with its last byte a block replaces the one on the disc, and gathering starts anew at the next
 abbrev pub gatherByte : ℕ → Store → ℕ → Store
 gatherByte size s x =
     let got = s .got ++ (x ∷ []) in
-    cond (eqb (length got) size) (store (set (s .blocks) (s .block .0) got) (nextBlock (s .block)) []) (store (s .blocks) (s .block) got)
+    cond (eqb (length got) size) (store (set (s .blocks) (s .block .0) got) (blocksOn (s .block) 1) []) (store (s .blocks) (s .block) got)
 
 abbrev pub gather : ℕ → Store → List ℕ → Store
 gather size s [] = s
 gather size s (x ∷ xs) = gather size (gatherByte size s x) xs
+
+-- "06 29 00 for power-on, else 06 28 00; that one flag is cleared": any other triple leaves both. The ledger's own rule, so that the drive's
+-- is held to it
+abbrev pub hearing : Host → Sense → Host
+hearing h sense = hostOf (not (sameB sense (triple 0x06 0x29 0x00)) && h .power) (not (sameB sense (triple 0x06 0x28 0x00)) && h .change) sense
 
 -- a command that passed: a READ gives the blocks as they are stored, a WRITE takes as many from its address on, an answer gives its first
 -- bytes, as the drive was before
@@ -88,7 +94,8 @@ accepts l (Insert number prot disc) h =
     ledger (mediaOf number prot) (hostOf (l .host .power) true (h .sense)) (store blocks (record { 0 = 0 }) []) (l .left) (l .coming)
 accepts l Eject h = ledger noMedia (hostOf (l .host .power) (l .host .change) (h .sense)) empty 0 []
 accepts l (Command p) h =
-    cond (h .passed) (passes (ruleOf p) l (told (l .host) (h .sense)) p) (ledger (l .media) (told (l .host) (h .sense)) (l .stored) 0 [])
+    let host = hearing (l .host) (h .sense) in
+    cond (h .passed) (passes (ruleOf p) l host p) (ledger (l .media) host (l .stored) 0 [])
 accepts l (Feed piece) h = fed l (take (h .count) piece)
 accepts l (Pull out) h = ledger (l .media) (l .host) (l .stored) (l .left) (drop (h .count) (l .coming))
 

@@ -1,7 +1,7 @@
 -- The customer's three demands of a device, and that they leave nothing open that a caller can hear. proofs/Together: our drive meets them.
-use Rattle.ground.specs.Kit.{_≡_, List, [], _∷_, ℕ, length}
+use Rattle.ground.specs.Kit.{_≡_, List, [], _∷_, length}
 use Rattle.disc.specs.Formats.{bufferBytes}
-use Rattle.house.specs.World.{World, world, Heard}
+use Rattle.house.specs.World.{World, inState, inDisc, Heard}
 use Rattle.drive.specs.Calls.{Call}
 use Rattle.demands.specs.Device.{Device, drive}
 use Rattle.demands.specs.Answered.{Answered}
@@ -21,11 +21,11 @@ heardIn d w (c ∷ cs) = d .call w c .heard ∷ heardIn d (d .call w c .world) c
 -- from power-on with a right block buffer, two devices that meet demands 1 and 2 are heard alike, whatever is called
 abbrev pub HeardAlike : Type 0
 HeardAlike =
-    (d e : Device) → Answered d → Faithful d → Answered e → Faithful e → (buffer : List ℕ) (cs : List Call) → length buffer ≡ bufferBytes
-    → heardIn d (world (d .start) buffer []) cs ≡ heardIn e (world (e .start) buffer []) cs
+    (d e : Device) → Answered d → Faithful d → Answered e → Faithful e → (w : World) (cs : List Call) → length (w .buffer) ≡ bufferBytes
+    → heardIn d (inDisc (inState w (d .start)) []) cs ≡ heardIn e (inDisc (inState w (e .start)) []) cs
 
 -- so a device that is heard otherwise than ours in any run breaks one of them
 abbrev pub ToldApart : Type 0
 ToldApart =
-    (d : Device) (buffer : List ℕ) (cs : List Call) → length buffer ≡ bufferBytes
-    → (heardIn d (world (d .start) buffer []) cs ≡ heardIn drive (world (drive .start) buffer []) cs → ⊥) → Answered d → Faithful d → ⊥
+    (d : Device) (w : World) (cs : List Call) → length (w .buffer) ≡ bufferBytes
+    → (heardIn d (inDisc (inState w (d .start)) []) cs ≡ heardIn drive (inDisc (inState w (drive .start)) []) cs → ⊥) → Answered d → Faithful d → ⊥

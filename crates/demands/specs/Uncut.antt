@@ -15,26 +15,27 @@ use Rattle.house.specs.World.{World}
 use Rattle.house.specs.Theorems.{Ready}
 use Rattle.drive.specs.Calls.{Call, Command, Feed, Pull}
 use Rattle.demands.specs.Device.{Device}
+use Rattle.demands.specs.Ledger.{blocksOn}
 use Rattle.demands.specs.Faithful.{Faithful}
 
 -- ---- "data lent whole or cut anywhere, with no other call between"
 
 -- the counts in sum, the pieces or buffers afterwards one after the other, and the world
-pub record Moved : Type 0 where
+pub record Lent : Type 0 where
   pub count : ℕ
   pub out : List ℕ
   pub world : World
 
-abbrev pub moved : ℕ → List ℕ → World → Moved
-moved count out w = record { count = count; out = out; world = w }
+abbrev pub lent : ℕ → List ℕ → World → Lent
+lent count out w = record { count = count; out = out; world = w }
 
 -- `way` is Feed or Pull
-abbrev pub lendAll : Device → (List ℕ → Call) → World → List (List ℕ) → Moved
-lendAll d way w [] = moved 0 [] w
+abbrev pub lendAll : Device → (List ℕ → Call) → World → List (List ℕ) → Lent
+lendAll d way w [] = lent 0 [] w
 lendAll d way w (x ∷ xs) =
     let a = d .call w (way x) in
     let rest = lendAll d way (a .world) xs in
-    moved (a .heard .count + rest .count) (a .heard .out ++ rest .out) (rest .world)
+    lent (a .heard .count + rest .count) (a .heard .out ++ rest .out) (rest .world)
 
 -- any number of pieces of any length
 abbrev pub CutAnywhere : Device → (List ℕ → Call) → Type 0
@@ -81,9 +82,6 @@ carry d way w p pieces =
 pub record Part : Type 0 where
   pub blocks : ℕ
   pub pieces : List (List ℕ)
-
-abbrev pub blocksOn : BlockAddress → ℕ → BlockAddress
-blocksOn k n = record { 0 = k .0 + n }
 
 -- consecutive commands like p, from an address on
 abbrev pub carryAll : Device → (List ℕ → Call) → World → Field → List ℕ → BlockAddress → List Part → Carried

@@ -47,22 +47,22 @@ abbrev pulling : Calls → Device
 pulling f = record { start = powerOn; call = altered sameEvents same same f }
 
 -- a refusal stays as it is; an accepted call leaves another world
-abbrev unlessRefused : Reply → Reply → Reply
-unlessRefused a b = cond (eqb (a .heard .house) 0) b a
+abbrev ifAccepted : Reply → Reply → Reply
+ifAccepted a b = cond (eqb (a .heard .house) 0) b a
 
 abbrev leaving : Reply → World → Reply
-leaving a w = unlessRefused a (reply 0 (a .heard .passed) (a .heard .count) (a .heard .out) w)
+leaving a w = ifAccepted a (reply 0 (a .heard .passed) (a .heard .count) (a .heard .out) w)
 
 -- ---- "A device that fails everything, one that passes everything, one that hands out zeros always, and one that discards feeds"
 
 abbrev pub failsEverything : Device
 failsEverything =
-    commanding (λ w p a. unlessRefused a (reply 0 false 0 [] (inState w (obeyedOf (w .state) unknownCode (w .state .motor) Closed))))
+    commanding (λ w p a. ifAccepted a (reply 0 false 0 [] (inState w (obeyedOf (w .state) unknownCode (w .state .motor) Closed))))
 
 abbrev pub passesEverything : Device
 passesEverything =
     commanding (λ w p a.
-    cond (a .heard .passed) a (unlessRefused a (reply 0 true 0 [] (inState w (obeyedOf (w .state) noSense (w .state .motor) Closed)))))
+    cond (a .heard .passed) a (ifAccepted a (reply 0 true 0 [] (inState w (obeyedOf (w .state) noSense (w .state .motor) Closed)))))
 
 abbrev pub handsOutZeros : Device
 handsOutZeros =
@@ -79,11 +79,15 @@ discardsFeeds = feeding (λ w piece a. leaving a (inState w (a .world .state)))
 abbrev firstOf : ℕ → DiscAt → DiscAt
 firstOf n p = record { at = p .at; left = min n (p .left) }
 
+-- by an open read, by an open write, and without either
+abbrev pub byDisc : {A : Type 0} → (DiscAt → A) → (DiscAt → A) → A → Transfer → A
+byDisc reads writes other Closed = other
+byDisc reads writes other (AnswerFrom p) = other
+byDisc reads writes other (Read p) = reads p
+byDisc reads writes other (Write p) = writes p
+
 abbrev shortened : ℕ → Transfer → Transfer
-shortened n Closed = Closed
-shortened n (AnswerFrom p) = AnswerFrom p
-shortened n (Read p) = Read (firstOf n p)
-shortened n (Write p) = Write (firstOf n p)
+shortened n t = byDisc (λ p. Read (firstOf n p)) (λ p. Write (firstOf n p)) t t
 
 abbrev with : World → Transfer → World
 with w t = inState w (stateOf (w .state .media) (w .state .motor) (w .state .host) t)
@@ -94,10 +98,7 @@ firstBlockOnly =
 
 -- what is pulled from once is closed
 abbrev pub pulledOnce : Transfer → Transfer
-pulledOnce Closed = Closed
-pulledOnce (AnswerFrom p) = Closed
-pulledOnce (Read p) = Closed
-pulledOnce (Write p) = Write p
+pulledOnce t = byDisc (λ p. Closed) Write Closed t
 
 abbrev pub firstPullOnly : Device
 firstPullOnly = pulling (λ w out a. leaving a (with (a .world) (pulledOnce (a .world .state .transfer))))
@@ -105,7 +106,7 @@ firstPullOnly = pulling (λ w out a. leaving a (with (a .world) (pulledOnce (a .
 -- ---- "A made-up count": the length of what was lent
 
 abbrev counted : Calls
-counted w bytes a = unlessRefused a (reply 0 false (length bytes) (a .heard .out) (a .world))
+counted w bytes a = ifAccepted a (reply 0 false (length bytes) (a .heard .out) (a .world))
 
 abbrev pub makesUpCounts : Device
 makesUpCounts = record { start = powerOn; call = altered sameEvents same counted counted }
@@ -135,10 +136,7 @@ versionTwo = commanding (λ w p a. cond (a .heard .passed && eqb (codeOf p) 0x12
 
 -- version three stores byte by byte
 abbrev pub storedAt : Transfer → List ℕ → List ℕ → ℕ → List ℕ
-storedAt Closed disc piece n = disc
-storedAt (AnswerFrom p) disc piece n = disc
-storedAt (Read p) disc piece n = disc
-storedAt (Write p) disc piece n = sets disc (p .at .0) (take n piece)
+storedAt t disc piece n = byDisc (λ p. disc) (λ p. sets disc (p .at .0) (take n piece)) disc t
 
 abbrev pub versionThree : Device
 versionThree =

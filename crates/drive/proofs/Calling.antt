@@ -12,9 +12,9 @@ use Rattle.house.proofs.Houses.{by-house}
 use Rattle.commands.specs.Events.{eventOf, insertOf, ejectOf}
 use Rattle.commands.specs.Obeying.{replyTo, commandOf}
 use Rattle.feeds.specs.Feeding.{feedBy, feedOf}
-use Rattle.feeds.proofs.ByTransfer.{by-feeding}
+use Rattle.feeds.proofs.ByTransfer.{fed-leaves}
 use Rattle.pulls.specs.Pulling.{pullBy, pullOf}
-use Rattle.pulls.proofs.ByTransfer.{by-pulling}
+use Rattle.pulls.proofs.ByTransfer.{pulled-leaves}
 use Rattle.drive.specs.Calls.{Call, Insert, Eject, Command, Feed, Pull, returned, houseOf, happens, callOf}
 
 -- the reply to a call that is accepted
@@ -64,8 +64,8 @@ module _ (w : World) where
   accepted-none (Insert number prot disc) = refl
   accepted-none Eject = refl
   accepted-none (Command p) = judged-none p (verdict (w .state .media) (w .state .host) p)
-  accepted-none (Feed piece) = by-feeding w piece (λ r. r .heard .house ≡ 0) (λ _. refl) (λ p e. refl)
-  accepted-none (Pull out) = by-pulling w out (λ r. r .heard .house ≡ 0) (λ _. refl) (λ p e. refl) (λ p e. refl)
+  accepted-none (Feed piece) = fed-leaves w piece .house
+  accepted-none (Pull out) = pulled-leaves w out .house
 
   pub numbered : (c : Call) → callOf w c .heard .house ≡ houseOf w c
   numbered c = by-call c (λ r. r .heard .house ≡ houseOf w c) (λ _. refl) (λ none. accepted-none c ∙ sym none)

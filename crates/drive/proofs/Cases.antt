@@ -12,41 +12,41 @@ use Rattle.packet.specs.Rules.{rules, ruleOf}
 use Rattle.checks.specs.Verdicts.{inMaskB, checksOf, verdict}
 use Rattle.answer.specs.Answers.{senseData, inquiryData}
 use Rattle.answer.specs.Giving.{answerOf, allocationOf, giveOf}
-use Rattle.house.specs.World.{world, Reply, reply}
+use Rattle.house.specs.World.{World, inState, inBuffer, Reply, reply}
 use Rattle.house.specs.Refusals.{moveTests, commandTests}
 use Rattle.commands.specs.Obeying.{spanOf, performedOf, commandOf}
 use Rattle.feeds.specs.Feeding.{feedOf}
 use Rattle.feeds.proofs.Feeding.{share-part}
 use Rattle.drive.specs.Cases.{plain, but, lengthAt7, bytes2And4, cases, outcome, expected, Starred}
 
-module _ (disc : List ℕ) (d : length disc ≡ 1474560) where
-  -- the write of block 0, so far on
-  abbrev at : ℕ → ℕ → State
-  at place left = but plain noSense (Write (record { at = record { 0 = place }; left = left }))
+-- the write of block 0, so far on
+abbrev at : ℕ → ℕ → State
+at place left = but plain noSense (Write (record { at = record { 0 = place }; left = left }))
 
-  abbrev passes : State → List ℕ → Reply
-  passes s buffer = reply 0 true 0 [] (world s buffer disc)
+module _ (w : World) (b : length (w .buffer) ≡ bufferBytes) (d : length (w .disc) ≡ 1474560) where
+  abbrev passes : State → Reply
+  passes s = reply 0 true 0 [] (inState w s)
 
   -- the table, and the two commands of the last case
-  record Answered (buffer : List ℕ) : Type 0 where
-    table : map (outcome buffer disc) cases ≡ map expected cases
-    opens : commandOf (world plain buffer disc) (lengthAt7 0x2a 0 1) ≡ passes (at 0 512) buffer
-    closes : commandOf (world (at 511 1) buffer disc) (bytes2And4 0x00 0 0) ≡ passes plain buffer
+  record Answered : Type 0 where
+    table : map (outcome w) cases ≡ map expected cases
+    opens : commandOf (inState w plain) (lengthAt7 0x2a 0 1) ≡ passes (at 0 512)
+    closes : commandOf (inState w (at 511 1)) (bytes2And4 0x00 0 0) ≡ passes plain
 
-  answered : (buffer : List ℕ) → length buffer ≡ bufferBytes → Answered buffer
+  answered : Answered
   unfolding formatOf blockBytes runBytes discBytes placeOf masks maskRow namedB obeyedOf onDiscB endsOnBlockB openSoundB soundB addressOf lengthOf rules ruleOf inMaskB checksOf verdict senseData inquiryData answerOf allocationOf giveOf moveTests commandTests spanOf performedOf commandOf
-  answered buffer b = record { table = rw (b, d); opens = rw (b, d); closes = rw (b, d) }
+  answered = record { table = rw (b, d); opens = rw (b, d); closes = rw (b, d) }
 
   -- 511 bytes complete no block
-  takes : (buffer piece : List ℕ) → length buffer ≡ bufferBytes → length piece ≡ 511
-      → feedOf (world (at 0 512) buffer disc) piece ≡ reply 0 false 511 piece (world (at 511 1) (sets buffer 0 piece) disc)
+  takes : (piece : List ℕ) → length piece ≡ 511
+      → feedOf (inState w (at 0 512)) piece ≡ reply 0 false 511 piece (inBuffer (inState w (at 511 1)) (sets (w .buffer) 0 piece))
   unfolding formatOf blockBytes runBytes discBytes namedB movedOf onDiscB endsOnBlockB openSoundB soundB moveTests feedOf
-  takes buffer piece b p =
+  takes piece p =
       let all : take 511 piece ≡ piece = take-all 511 piece (omega arith) in
-      rw (b, d, p, all, share-part 512 0 buffer disc piece (omega arith))
+      rw (b, d, p, all, share-part 512 0 (w .buffer) (w .disc) piece (omega arith))
 
 pub starred : Starred
-starred buffer disc piece b d p =
-    let start = answered disc d buffer b in
-    let end = answered disc d (sets buffer 0 piece) (length-sets buffer 0 piece ∙ b) in
-    (start .table, rw (start .opens, takes disc d buffer piece b p, end .closes))
+starred w piece b d p =
+    let start = answered w b d in
+    let end = answered (inBuffer w (sets (w .buffer) 0 piece)) (length-sets (w .buffer) 0 piece ∙ b) d in
+    (start .table, rw (start .opens, takes w b d piece p, end .closes))

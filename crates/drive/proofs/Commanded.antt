@@ -1,12 +1,12 @@
 -- What a command leaves: a sound state, what is lent as long as it was, and the flags but for the one that it reports. Assumes nothing.
-use Rattle.ground.specs.Kit.{_≡_, refl, Bool, true, false, _||_, List, ℕ, _+_, _*_, _%_, _≤_, add-mul, mul-mod-left, mul-zero, arith, le-leb, lt-ltb, ne-eqb, eqb, length}
+use Rattle.ground.specs.Kit.{_≡_, refl, Bool, true, false, _||_, List, ℕ, _+_, _%_, _≤_, add-mul, mul-mod-left, mul-zero, arith, eqb, length}
 use Rattle.disc.specs.declared.{BlockAddress.BlockAddress}
-use Rattle.state.specs.declared.{Sense.Sense, AnswerAt.AnswerAt, Transfer.Transfer}
+use Rattle.state.specs.declared.{AnswerAt.AnswerAt, Transfer.Transfer}
 use Rattle.packet.specs.declared.{Rule.Rule, Routine.Routine}
 use Rattle.checks.specs.declared.{Verdict.Verdict}
 use Rattle.ground.specs.Bytes.{byteAt}
 use Rattle.ground.proofs.Truth.{neither}
-use Rattle.disc.specs.Formats.{bufferBytes, formatOf, blockBytes, runBytes, discBytes, placeOf}
+use Rattle.disc.specs.Formats.{bufferBytes, formatOf, blockBytes, runBytes, placeOf}
 use Rattle.disc.proofs.Discs.{run-within}
 use Rattle.state.specs.Senses.{powerTold, changeTold, noSense, sameB, namedB}
 use Rattle.state.specs.States.{leftOf, obeyedOf}

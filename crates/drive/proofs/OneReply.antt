@@ -1,5 +1,5 @@
 -- Two replies that an entry's promise allows are equal. Assumes nothing.
-use Rattle.ground.specs.Kit.{_≡_, sym, _∙_, ap}
+use Rattle.ground.specs.Kit.{sym, _∙_, ap}
 use Rattle.house.specs.World.{Reply}
 use Rattle.house.proofs.Houses.{one-house}
 use Rattle.commands.specs.Events.{Event}
@@ -16,7 +16,7 @@ one-event e r q f g =
     λ i. record { house = house i; state = state i }
 
 pub one-command : OneCommand
-one-command a disc r q b c e f =
+one-command a w disc r q b c e f =
     let same = e ∙ sym f in
     let house = one-house (r .house) (q .house) (ap (λ (a : Reply). a .heard .house) same) in
     let passed = ap (λ (a : Reply). a .heard .passed) same in
@@ -24,7 +24,7 @@ one-command a disc r q b c e f =
     (λ i. record { house = house i; passed = passed i; state = state i }, ap (λ (a : Reply). a .world .buffer) same)
 
 pub one-move : OneMove
-one-move a r q x y b c d e f g =
+one-move a w r q x y b c d e f g =
     let same = f ∙ sym g in
     let house = one-house (r .house) (q .house) (ap (λ (a : Reply). a .heard .house) same) in
     let count = ap (λ (a : Reply). a .heard .count) same in

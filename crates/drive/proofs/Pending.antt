@@ -1,22 +1,22 @@
 -- While a change is pending, the second command that C is asked of reports it at the latest. Assumes nothing.
-use Rattle.ground.specs.Kit.{_≡_, refl, sym, _∙_, Bool, true, false, cond, not, _&&_, _||_, or-true, and-true, true≢false, false≢true, List, [], _∷_, ℕ, suc, _≤_, arith, eqb-true, not-true, eqb, lit≤, length}
+use Rattle.ground.specs.Kit.{_≡_, refl, sym, _∙_, Bool, true, false, cond, not, _&&_, or-true, and-true, true≢false, false≢true, List, [], _∷_, ℕ, suc, _≤_, arith, eqb-true, not-true, eqb, lit≤, length}
 use Rattle.state.specs.declared.{Sense.Sense, Media.Media, Host.Host}
 use Rattle.packet.specs.declared.{Rule.Rule, Known.Known}
 use Rattle.checks.specs.declared.{Check.Check}
 use Rattle.ground.proofs.Truth.{both}
-use Rattle.state.specs.Senses.{powerTold, changeTold, sameB}
-use Rattle.state.specs.States.{insertedOf, ejectedOf, obeyedOf, movedOf}
+use Rattle.state.specs.Senses.{powerTold, changeTold}
+use Rattle.state.specs.States.{insertedOf, ejectedOf, obeyedOf}
 use Rattle.packet.specs.Rules.{codeOf, ruleOf}
 use Rattle.packet.specs.declared.Known.the-variants.{Unknown, Base}
 use Rattle.packet.proofs.BaseCommands.{freeB, attended, unit-asked}
 use Rattle.checks.specs.Verdicts.{otherUnitB, firstOf, checksOf, verdict}
 use Rattle.checks.specs.declared.Verdict.the-variants.{Fails}
-use Rattle.house.specs.World.{World, Reply}
+use Rattle.house.specs.World.{World}
 use Rattle.house.specs.Theorems.{Ready}
 use Rattle.house.proofs.Houses.{command-admits}
 use Rattle.commands.specs.Obeying.{replyTo}
-use Rattle.feeds.proofs.ByTransfer.{by-feeding}
-use Rattle.pulls.proofs.ByTransfer.{by-pulling}
+use Rattle.feeds.proofs.ByTransfer.{fed-leaves}
+use Rattle.pulls.proofs.ByTransfer.{pulled-leaves}
 use Rattle.drive.specs.Calls.{Call, Insert, Eject, Command, Feed, Pull, houseOf, callOf}
 use Rattle.drive.specs.Theorems.{baseB, attendedB, attendsB, attendedCount, answersChangeB, someReportsB, SecondAtLatest}
 use Rattle.drive.proofs.Calling.{acceptedOf, accepted, by-call}
@@ -102,17 +102,14 @@ untold : {w v : World} → Untold w v → Pending w v
 untold u = record { power = u .power; change = λ on. u .change ∙ on }
 
 pending-accepted : (w : World) (c : Call) → attendsB c ≡ false → houseOf w c ≡ 0 → Pending w (acceptedOf w c .world)
-unfolding insertedOf ejectedOf movedOf
+unfolding insertedOf ejectedOf
 pending-accepted w (Insert number prot disc) e none = record { power = refl; change = λ _. refl }
 pending-accepted w Eject e none = record { power = refl; change = λ on. on }
 pending-accepted w (Command p) e none =
     let s = w .state in
     untold (replied-untold w p (verdict (s .media) (s .host) p) (other (s .media) (s .host) p (command-admits w p .0 none .0) e))
-pending-accepted w (Feed piece) e none =
-    by-feeding w piece (λ a. Pending w (a .world)) (λ _. record { power = refl; change = λ on. on }) (λ p e. record { power = refl; change = λ on. on })
-pending-accepted w (Pull out) e none =
-    by-pulling w out (λ a. Pending w (a .world)) (λ _. record { power = refl; change = λ on. on }) (λ p e. record { power = refl; change = λ on. on })
-    (λ p e. record { power = refl; change = λ on. on })
+pending-accepted w (Feed piece) e none = let l = fed-leaves w piece in record { power = l .power; change = λ on. l .change ∙ on }
+pending-accepted w (Pull out) e none = let l = pulled-leaves w out in record { power = l .power; change = λ on. l .change ∙ on }
 
 still-pending : (w : World) (c : Call) → attendsB c ≡ false → Pending w (callOf w c .world)
 still-pending w c e = by-call w c (λ a. Pending w (a .world)) (λ _. record { power = refl; change = λ on. on }) (pending-accepted w c e)

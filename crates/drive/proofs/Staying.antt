@@ -7,10 +7,10 @@ use Rattle.state.specs.States.{insertedOf, ejectedOf, movedOf}
 use Rattle.state.specs.Senses.{namedB}
 use Rattle.state.specs.declared.Transfer.the-variants.{Answer, Read, Write}
 use Rattle.sound.specs.Soundness.{openSoundB, soundB}
-use Rattle.sound.proofs.Keeping.{parts, inserted-sound, ejected-sound, moved-sound}
+use Rattle.sound.proofs.Keeping.{inserted-sound, ejected-sound, moved-sound}
 use Rattle.sound.proofs.Opened.{OnDisc, EndsOnBlock, in-buffer, answer-sound, on-disc, on-disc-sound, writes, writes-sound}
 use Rattle.checks.specs.Verdicts.{verdict}
-use Rattle.house.specs.World.{World, Reply}
+use Rattle.house.specs.World.{World}
 use Rattle.house.specs.Theorems.{Ready}
 use Rattle.house.proofs.Houses.{ready-in, insert-admits, command-admits, admits}
 use Rattle.moves.specs.Replies.{answerAfter, discAfter}

@@ -6,7 +6,7 @@ use Rattle.state.specs.declared.Transfer.the-variants.{Closed, Answer, Read}
 use Rattle.state.specs.Senses.{triple, noSense}
 use Rattle.state.specs.States.{mediaOf, hostOf, stateOf}
 use Rattle.ground.specs.Bytes.{be2, be4}
-use Rattle.house.specs.World.{world}
+use Rattle.house.specs.World.{World, inState}
 use Rattle.commands.specs.Obeying.{commandOf}
 use Rattle.feeds.specs.Feeding.{feedOf}
 
@@ -81,9 +81,9 @@ pub record Outcome : Type 0 where
   pub passed : Bool
   pub state : State
 
-abbrev pub outcome : List ℕ → List ℕ → Case → Outcome
-outcome buffer disc c =
-    let r = commandOf (world (c .before) buffer disc) (c .packet) in
+abbrev pub outcome : World → Case → Outcome
+outcome w c =
+    let r = commandOf (inState w (c .before)) (c .packet) in
     record { house = r .heard .house; passed = r .heard .passed; state = r .world .state }
 
 -- no house test refuses
@@ -97,9 +97,9 @@ pub record BrokenOff : Type 0 where
   pub passed : Bool
   pub disc : List ℕ
 
-abbrev pub brokenOff : List ℕ → List ℕ → List ℕ → BrokenOff
-brokenOff buffer disc piece =
-    let wrote = commandOf (world plain buffer disc) (lengthAt7 0x2a 0 1) in
+abbrev pub brokenOff : World → List ℕ → BrokenOff
+brokenOff w piece =
+    let wrote = commandOf (inState w plain) (lengthAt7 0x2a 0 1) in
     let fed = feedOf (wrote .world) piece in
     let tested = commandOf (fed .world) (bytes2And4 0x00 0 0) in
     record { written = wrote .heard .passed; count = fed .heard .count; passed = tested .heard .passed; disc = tested .world .disc }
@@ -107,6 +107,6 @@ brokenOff buffer disc piece =
 -- over any block buffer, any disc 3 and any 511 bytes
 abbrev pub Starred : Type 0
 Starred =
-    (buffer disc piece : List ℕ) → length buffer ≡ bufferBytes → length disc ≡ 1474560 → length piece ≡ 511
-    → (map (outcome buffer disc) cases ≡ map expected cases)
-    × (brokenOff buffer disc piece ≡ record { written = true; count = 511; passed = true; disc = disc })
+    (w : World) (piece : List ℕ) → length (w .buffer) ≡ bufferBytes → length (w .disc) ≡ 1474560 → length piece ≡ 511
+    → (map (outcome w) cases ≡ map expected cases)
+    × (brokenOff w piece ≡ record { written = true; count = 511; passed = true; disc = w .disc })

@@ -1,12 +1,14 @@
 -- A feed by the open transfer: what a proof has to show of it. Assumes nothing.
-use Rattle.ground.specs.Kit.{_≡_, refl, _∙_, List, [], _∷_, ℕ, tagOf, OneOf, miss}
+use Rattle.ground.specs.Kit.{_≡_, refl, sym, _∙_, List, [], _∷_, ℕ, tagOf, OneOf, miss}
 use Rattle.state.specs.declared.{DiscAt.DiscAt, Transfer.Transfer}
 use Rattle.state.specs.declared.Transfer.the-variants.{Closed, Answer, Read, Write}
 use Rattle.state.proofs.Transfer.{the-type}
+use Rattle.state.specs.States.{movedOf}
 use Rattle.house.specs.World.{World, Reply}
 use Rattle.house.specs.Theorems.{Ready}
 use Rattle.house.proofs.Houses.{ready-in}
 use Rattle.moves.specs.Replies.{idle}
+use Rattle.moves.proofs.Leaving.{Leaves}
 use Rattle.feeds.specs.Feeding.{writeFed, feedBy, feedOf}
 
 -- how many bytes it takes
@@ -45,9 +47,20 @@ module _ (w : World) (piece : List ℕ) where
       here t e (idles none same) = rw (same w piece) (idle-case (rw e none))
       here t e (writes p f) = rw f (write-case p (e ∙ f))
 
+  -- whatever it takes
+  pub fed-leaves : Leaves w (feedBy (w .state .transfer) w piece)
+  unfolding movedOf
+  fed-leaves =
+      by-feeding (Leaves w) (λ _. record { house = refl; media = refl; power = refl; change = refl })
+      (λ p e. record { house = refl; media = refl; power = refl; change = refl })
+
 -- what the default of a `match` on the transfer is given, that its tag is none of the others', is enough
-pub unfed : (w : World) (piece : List ℕ) (t : Transfer) → OneOf (0 ∷ 1 ∷ 2 ∷ []) (tagOf the-type t) → idle w piece ≡ feedBy t w piece
-unfed w piece Closed k = refl
-unfed w piece (Answer p) k = refl
-unfed w piece (Read p) k = refl
-unfed w piece (Write p) k = absurd (miss (0 ∷ 1 ∷ 2 ∷ []) 3 tt k)
+abbrev others : List ℕ
+others = 0 ∷ 1 ∷ 2 ∷ []
+
+pub unfed : (w : World) (piece : List ℕ) (t : Transfer) → OneOf others (tagOf the-type t) → idle w piece ≡ feedBy t w piece
+unfed w piece t k = here (feeding t)
+  where
+    here : Feeding t → idle w piece ≡ feedBy t w piece
+    here (idles none same) = sym (same w piece)
+    here (writes p e) = absurd (miss others 3 tt (rw e at k))

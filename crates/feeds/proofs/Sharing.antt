@@ -6,31 +6,25 @@ use Rattle.ground.proofs.Parts.{put-back}
 use Rattle.feeds.specs.Feeding.{writing, feedBytes}
 use Rattle.feeds.proofs.Feeding.{at-byte, share-part, share-full}
 
--- the buffer `after` has the first `count` bytes of the piece in the rest of the block
-pub record Copied (b at : ℕ) (piece buffer after : List ℕ) (count : ℕ) : Type 0 where
-  pub share : count ≡ min (length piece) (b - at % b)
+-- the buffer `after` has the first `count` bytes of the piece in its k bytes from `at` on
+pub record Copied (at k : ℕ) (piece buffer after : List ℕ) (count : ℕ) : Type 0 where
+  pub share : count ≡ min (length piece) k
   pub size : length (take count piece) ≡ count
-  pub bytes : after ≡ sets buffer (at % b) (take count piece)
+  pub bytes : after ≡ sets buffer at (take count piece)
+
+pub copied : (at k : ℕ) (piece buffer : List ℕ) → at + k ≤ length buffer → (count : ℕ) (last : List ℕ)
+    → filled count last ≡ fillOf (min (length piece) (length (take k (drop at buffer)))) piece (take k (drop at buffer))
+    → Copied at k piece buffer (take at buffer ++ (last ++ drop k (drop at buffer))) count
+copied at k piece buffer held count last e =
+    let part = take k (drop at buffer) in
+    let l : length part ≡ k = length-take-le k (drop at buffer) (simp length-drop (omega arith)) in
+    let n = ap (λ (f : Filled). f .count) e in
+    let size = length-take-le count piece (omega arith) in
+    let start : last ≡ take count piece ++ drop (length (take count piece)) part = rw (size, n) (ap (λ (f : Filled). f .bytes) e) in
+    record { share = rw l at n; size = size; bytes = put-back buffer (take count piece) last at k held (omega arith) start }
 
 module _ (b at m : ℕ) (s : Share b at m) (piece buffer : List ℕ) (held : b ≤ length buffer) (count : ℕ) where
-  pub copied : (last : List ℕ)
-      → filled count last
-      ≡ fillOf (min (length piece) (length (take (b - at % b) (drop (at % b) buffer)))) piece (take (b - at % b) (drop (at % b) buffer))
-      → Copied b at piece buffer (take (at % b) buffer ++ (last ++ drop (b - at % b) (drop (at % b) buffer))) count
-  copied last e =
-      let part = take (b - at % b) (drop (at % b) buffer) in
-      let inside = s .inside in
-      let l : length part ≡ b - at % b = length-take-le (b - at % b) (drop (at % b) buffer) (simp length-drop (omega arith)) in
-      let n = ap (λ (f : Filled). f .count) e in
-      let size = length-take-le count piece (omega arith) in
-      let start : last ≡ take count piece ++ drop (length (take count piece)) part = rw (size, n) (ap (λ (f : Filled). f .bytes) e) in
-      record {
-        share = rw l at n;
-        size = size;
-        bytes = put-back buffer (take count piece) last (at % b) (b - at % b) (omega arith) (omega arith) start;
-      }
-
-  module _ (after disc : List ℕ) (c : Copied b at piece buffer after count) where
+  module _ (after disc : List ℕ) (c : Copied (at % b) (b - at % b) piece buffer after count) where
     -- the share is the piece's first bytes, one by one
     abbrev Done : List ℕ → Type 0
     Done disc′ =

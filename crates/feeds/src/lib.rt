@@ -3,7 +3,7 @@ mod blocks;
 
 ghost use Rattle.ground.specs.Kit.{_≡_, length};
 ghost use Rattle.disc.specs.Formats.{bufferBytes};
-ghost use Rattle.house.specs.World.{world};
+ghost use Rattle.house.specs.World.{World, inState, inLent};
 ghost use Rattle.moves.specs.Places.{WriteSpan};
 ghost use Rattle.moves.specs.Replies.{moved};
 ghost use Rattle.feeds.specs.Feeding.{writeFed, feedOf};
@@ -24,8 +24,8 @@ fn feed_write(
 ) -> MoveReply
     requires { ⌜ WriteSpan (state .media .disc) from (now disc) ⌝ }
     requires { ⌜ length (now buffer) ≡ bufferBytes ⌝ }
-    ensures { λ r. ⌜ moved r (now (piece .entry)) (now (buffer .exit)) (now (disc .exit))
-        ≡ writeFed from (world state (now (buffer .entry)) (now (disc .entry))) (now (piece .entry)) ⌝ }
+    ensures { λ r. ⌜ ((w : World) → moved r (now (piece .entry)) (inLent w (now (buffer .exit)) (now (disc .exit)))
+        ≡ writeFed from (inState (inLent w (now (buffer .entry)) (now (disc .entry))) state) (now (piece .entry))) ⌝ }
 {
     let count = blocks::feed_blocks(piece, from, state.media.disc, buffer, disc);
     let rest = DiscAt {
@@ -41,8 +41,8 @@ fn feed_write(
 }
 
 pub fn feed(state: State, piece: &[u8], buffer: &mut [u8], disc: &mut [u8]) -> MoveReply
-    ensures { λ r. ⌜ moved r (now (piece .entry)) (now (buffer .exit)) (now (disc .exit))
-        ≡ feedOf (world state (now (buffer .entry)) (now (disc .entry))) (now (piece .entry)) ⌝ }
+    ensures { λ r. ⌜ ((w : World) → moved r (now (piece .entry)) (inLent w (now (buffer .exit)) (now (disc .exit)))
+        ≡ feedOf (inState (inLent w (now (buffer .entry)) (now (disc .entry))) state) (now (piece .entry))) ⌝ }
 {
     let house = house::move_house(state, buffer.len(), disc.len());
     if house::number_of(house) != 0 {

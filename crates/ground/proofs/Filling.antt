@@ -1,5 +1,5 @@
 -- Laws of filling the start of a buffer. Assumes nothing.
-use Rattle.ground.specs.Kit.{_≡_, List, ℕ, _≤_, min, le-refl, length, take, length-take-le, take-take, arith}
+use Rattle.ground.specs.Kit.{_≡_, List, ℕ, _≤_, length, take, take-take}
 use Rattle.ground.specs.Filling.{fillOf}
 
 -- a start of the source fills as the source itself

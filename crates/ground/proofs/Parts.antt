@@ -1,5 +1,5 @@
 -- Parts of a list: those that are lent and come back, and those beside a copy that was pasted. Assumes nothing.
-use Rattle.ground.specs.Kit.{_≡_, sym, _∙_, List, [], _∷_, _++_, append-assoc, ℕ, zero, suc, _≤_, _+_, _-_, zero-add, suc-add, arith, length, take, drop, length-drop, take-append-drop, paste, sets, sets-eq, take-nil, take-all, take-at, take-take, take-append-le, length-take-le, drop-at, drop-append-le, drop-drop, drop-paste}
+use Rattle.ground.specs.Kit.{_≡_, sym, _∙_, List, [], _∷_, _++_, append-assoc, ℕ, zero, suc, _≤_, _+_, _-_, zero-add, add-zero, suc-add, arith, length, take, drop, set, length-drop, take-append-drop, paste, sets, sets-eq, take-nil, take-all, take-at, take-take, take-append-le, length-take-le, drop-at, drop-append-le, drop-drop, drop-paste}
 
 -- the part from `at` to the end
 pub tail-part : (at : ℕ) (l : List ℕ) → take (length l - at) (drop at l) ≡ drop at l
@@ -15,6 +15,13 @@ put-back buffer xs ys at k h i e =
     let tail : drop n part ++ drop k (drop at buffer) ≡ drop (at + n) buffer =
     sym (drop-append-le n part (drop k (drop at buffer)) (omega arith)) ∙ rw (take-append-drop k (drop at buffer), drop-drop n at buffer) in
     rw (e, append-assoc xs, tail, sets-eq xs buffer at (omega arith), append-assoc (take at buffer))
+
+-- bytes set one after the other may be set in two parts
+pub sets-more : (xs ys l : List ℕ) (at : ℕ) → sets l at (xs ++ ys) ≡ sets (sets l at xs) (at + length xs) ys
+sets-more [] ys l at = rw (add-zero at)
+sets-more (x ∷ xs) ys l at =
+    let e : at + suc (length xs) ≡ suc at + length xs = omega arith in
+    rw e (sets-more xs ys (set l at x) (suc at))
 
 -- ---- parts of a list with a copy pasted into it
 

@@ -1,5 +1,5 @@
 -- Tables by number: an entry is found by its key.
-use Rattle.ground.specs.Kit.{Bool, cond, List, [], _∷_, ℕ, eqb}
+use Rattle.ground.specs.Kit.{cond, List, [], _∷_, ℕ, eqb}
 
 pub record Entry (A : Type 0) : Type 0 where
   pub key : ℕ

@@ -74,9 +74,6 @@ module _ (w : World) where
         let-pass (commandTests (w .state) (length p) (length (w .buffer)) (length (w .disc))) refl (eq-eqb (commandHouse w p) 0 none) in
         (eqb-true (length p) 12 (not-false (eqb (length p) 12) (test1 .0)), none-ready (test1 .1))
 
-    pub was-ready : noneB (commandHouse w p) ≡ true → (length p ≡ 12) × Ready w
-    was-ready none = in-command (eqb-true (commandHouse w p) 0 none)
-
 module _ (s : State) (number : ℕ) (disc : List ℕ) where
   insertable : firstRefusal (insertTests s number (length disc)) ≡ 0 → Insertable s number disc
   unfolding insertTests

@@ -1,6 +1,7 @@
 -- All that a call can change but the caller's buffer, and what a call answers and leaves.
-use Rattle.ground.specs.Kit.{Bool, false, cond, List, ℕ, eqb}
+use Rattle.ground.specs.Kit.{Bool, false, cond, List, [], ℕ, eqb}
 use Rattle.state.specs.declared.{Sense.Sense, State.State}
+use Rattle.state.specs.States.{powerOn}
 
 -- the state, and the bytes of block buffer and disc
 pub record World : Type 0 where
@@ -20,6 +21,14 @@ inBuffer w buffer = record { state = w .state; buffer = buffer; disc = w .disc }
 
 abbrev pub inDisc : World → List ℕ → World
 inDisc w disc = record { state = w .state; buffer = w .buffer; disc = disc }
+
+-- and but for the block buffer and the disc that are lent for a call: the rest is not lent, so that the call leaves it
+abbrev pub inLent : World → List ℕ → List ℕ → World
+inLent w buffer disc = inDisc (inBuffer w buffer) disc
+
+-- where any world will do
+abbrev pub someWorld : World
+someWorld = world powerOn [] []
 
 -- all that a caller hears: the house number, whether a command passed, the triple afterwards, the count, and the piece or the
 -- caller's buffer afterwards

@@ -3,12 +3,12 @@ use Rattle.ground.specs.Kit.{false, List, ℕ, _+_, _-_}
 use Rattle.disc.specs.declared.{BytePlace.BytePlace}
 use Rattle.state.specs.declared.{AnswerAt.AnswerAt, DiscAt.DiscAt}
 use Rattle.moves.specs.declared.{MoveReply.MoveReply}
-use Rattle.house.specs.World.{World, world, Reply, reply, refusal}
+use Rattle.house.specs.World.{World, inState, Reply, reply, refusal}
 use Rattle.house.specs.Refusals.{numberOf}
 
--- a reply by its number, with the piece or the caller's buffer, the block buffer and the disc afterwards
-abbrev pub moved : MoveReply → List ℕ → List ℕ → List ℕ → Reply
-moved r out buffer disc = reply (numberOf (r .house)) false (r .count) out (world (r .state) buffer disc)
+-- a reply by its number, with the piece or the caller's buffer, and what is lent afterwards
+abbrev pub moved : MoveReply → List ℕ → World → Reply
+moved r out w = reply (numberOf (r .house)) false (r .count) out (inState w (r .state))
 
 -- "gives count 0 and changes nothing"
 abbrev pub idle : World → List ℕ → Reply

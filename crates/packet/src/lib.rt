@@ -70,6 +70,12 @@ pub enum Values {
 
 const ANY: Values = Values::Any;
 
+const BIT_0_ZERO: Values = Values::ZeroBits(0x01);
+
+const BIT_1_ZERO: Values = Values::ZeroBits(0x02);
+
+const PAGE: Values = Values::Page;
+
 // Where a command has its length.
 pub enum Field {
     Nowhere,
@@ -77,6 +83,14 @@ pub enum Field {
     Bytes7To8,
     Bytes6To9,
 }
+
+const NOWHERE: Field = Field::Nowhere;
+
+const BYTE_4: Field = Field::Byte4;
+
+const BYTES_7_8: Field = Field::Bytes7To8;
+
+const BYTES_6_9: Field = Field::Bytes6To9;
 
 pub enum Answering {
     Sense,
@@ -103,7 +117,7 @@ const GIVE_SENSE: Routine = Routine::Answer(Answering::Sense);
 
 const GIVE_INQUIRY: Routine = Routine::Answer(Answering::Inquiry);
 
-const GIVE_FORMAT_CAPACITIES: Routine = Routine::Answer(Answering::FormatCapacities);
+const GIVE_FORMATS: Routine = Routine::Answer(Answering::FormatCapacities);
 
 const GIVE_CAPACITY: Routine = Routine::Answer(Answering::Capacity);
 
@@ -184,58 +198,22 @@ pub fn rule_of(packet: &[u8]) -> Known
 {
     let code = byte(packet, 0);
     match code {
-        TEST_UNIT_READY => base(0, asking(B, C, D, NO, NO), ANY, Field::Nowhere, NOTHING),
-        REZERO_UNIT => base(1, asking(B, C, D, NO, NO), ANY, Field::Nowhere, NOTHING),
-        REQUEST_SENSE => base(2, asking(B, NO, NO, NO, NO), ANY, Field::Byte4, GIVE_SENSE),
-        INQUIRY => base(
-            3,
-            asking(B, NO, NO, NO, NO),
-            ANY,
-            Field::Byte4,
-            GIVE_INQUIRY,
-        ),
-        START_STOP_UNIT => base(
-            4,
-            asking(B, C, NO, NO, NO),
-            Values::ZeroBits(0x02),
-            Field::Nowhere,
-            MOTOR,
-        ),
-        PREVENT_REMOVAL => base(
-            5,
-            asking(B, C, NO, NO, NO),
-            Values::ZeroBits(0x01),
-            Field::Nowhere,
-            NOTHING,
-        ),
-        READ_FORMAT_CAPACITIES => base(
-            6,
-            asking(B, C, NO, NO, NO),
-            ANY,
-            Field::Bytes7To8,
-            GIVE_FORMAT_CAPACITIES,
-        ),
-        READ_CAPACITY => base(
-            7,
-            asking(B, C, D, NO, NO),
-            ANY,
-            Field::Nowhere,
-            GIVE_CAPACITY,
-        ),
-        READ_10 => base(8, asking(B, C, D, G, NO), ANY, Field::Bytes7To8, READ),
-        WRITE_10 => base(9, asking(B, C, D, G, H), ANY, Field::Bytes7To8, WRITE),
-        SEEK => base(10, asking(B, C, D, G, NO), ANY, Field::Nowhere, NOTHING),
-        WRITE_AND_VERIFY => base(11, asking(B, C, D, G, H), ANY, Field::Bytes7To8, WRITE),
-        VERIFY => base(12, asking(B, C, D, G, NO), ANY, Field::Bytes7To8, NOTHING),
-        MODE_SENSE => base(
-            13,
-            asking(B, C, D, NO, NO),
-            Values::Page,
-            Field::Bytes7To8,
-            GIVE_MODE,
-        ),
-        READ_12 => base(14, asking(B, C, D, G, NO), ANY, Field::Bytes6To9, READ),
-        WRITE_12 => base(15, asking(B, C, D, G, H), ANY, Field::Bytes6To9, WRITE),
+        TEST_UNIT_READY => base(0, asking(B, C, D, NO, NO), ANY, NOWHERE, NOTHING),
+        REZERO_UNIT => base(1, asking(B, C, D, NO, NO), ANY, NOWHERE, NOTHING),
+        REQUEST_SENSE => base(2, asking(B, NO, NO, NO, NO), ANY, BYTE_4, GIVE_SENSE),
+        INQUIRY => base(3, asking(B, NO, NO, NO, NO), ANY, BYTE_4, GIVE_INQUIRY),
+        START_STOP_UNIT => base(4, asking(B, C, NO, NO, NO), BIT_1_ZERO, NOWHERE, MOTOR),
+        PREVENT_REMOVAL => base(5, asking(B, C, NO, NO, NO), BIT_0_ZERO, NOWHERE, NOTHING),
+        READ_FORMAT_CAPACITIES => base(6, asking(B, C, NO, NO, NO), ANY, BYTES_7_8, GIVE_FORMATS),
+        READ_CAPACITY => base(7, asking(B, C, D, NO, NO), ANY, NOWHERE, GIVE_CAPACITY),
+        READ_10 => base(8, asking(B, C, D, G, NO), ANY, BYTES_7_8, READ),
+        WRITE_10 => base(9, asking(B, C, D, G, H), ANY, BYTES_7_8, WRITE),
+        SEEK => base(10, asking(B, C, D, G, NO), ANY, NOWHERE, NOTHING),
+        WRITE_AND_VERIFY => base(11, asking(B, C, D, G, H), ANY, BYTES_7_8, WRITE),
+        VERIFY => base(12, asking(B, C, D, G, NO), ANY, BYTES_7_8, NOTHING),
+        MODE_SENSE => base(13, asking(B, C, D, NO, NO), PAGE, BYTES_7_8, GIVE_MODE),
+        READ_12 => base(14, asking(B, C, D, G, NO), ANY, BYTES_6_9, READ),
+        WRITE_12 => base(15, asking(B, C, D, G, H), ANY, BYTES_6_9, WRITE),
         _ => Known::Unknown,
     }
 }

@@ -12,7 +12,7 @@ use Rattle.record.specs.declared.Record.the-variants.{Insert, Eject, Command, F
 use Rattle.record.specs.Records.{recordOf}
 use Rattle.record.specs.Holding.{Holds}
 use Rattle.record.proofs.Holding.{all-hold}
-use Rattle.player.specs.Playing.{Said, lending, calledOf, pulledOf, saidOf}
+use Rattle.player.specs.Playing.{Said, lending, calledOf, pullSaid, saidOf}
 use Rattle.player.specs.Lines.{digitsText, senseText, shownText, playedLine, badLine, lineOf}
 use Rattle.player.proofs.Lending.{count-within}
 
@@ -53,7 +53,7 @@ line-long number s h = here (s .bad)
 
 -- a pull shows no more than it asked for, and no other record shows anything
 shown-few : (w : World) (script : List ℕ) (r : Record) → Holds r script → length (saidOf w script r .shown) ≤ 512
-unfolding calledOf pulledOf
+unfolding calledOf pullSaid
 shown-few w script (Insert number prot) h = omega arith
 shown-few w script Eject h = omega arith
 shown-few w script Command h = omega arith

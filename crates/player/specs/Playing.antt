@@ -48,8 +48,8 @@ unfoldable pub calledOf : World → Call → Said
 calledOf w c = said w (callOf (lending w) c) []
 
 -- "for a pull with a count above 0 the bytes"
-unfoldable pub pulledOf : World → List ℕ → Said
-pulledOf w out = let r = callOf (lending w) (call.Pull out) in said w r (take (r .heard .count) (r .heard .out))
+unfoldable pub pullSaid : World → List ℕ → Said
+pullSaid w out = let r = callOf (lending w) (call.Pull out) in said w r (take (r .heard .count) (r .heard .out))
 
 -- "is bad: it isn't played"
 abbrev pub badSaid : World → Said
@@ -61,5 +61,5 @@ saidOf w script (Insert number prot) = calledOf w (call.Insert number prot (w .d
 saidOf w script Eject = calledOf w call.Eject
 saidOf w script Command = calledOf w (call.Command (take 12 (drop 4 script)))
 saidOf w script (Feed n) = calledOf w (call.Feed (take n (drop 4 script)))
-saidOf w script (Pull n) = pulledOf w (zeros n)
+saidOf w script (Pull n) = pullSaid w (zeros n)
 saidOf w script Bad = badSaid w

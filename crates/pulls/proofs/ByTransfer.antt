@@ -1,12 +1,14 @@
 -- A pull by the open transfer: what a proof has to show of it. Assumes nothing.
-use Rattle.ground.specs.Kit.{_≡_, refl, _∙_, List, [], _∷_, ℕ, tagOf, take, drop, OneOf, miss}
+use Rattle.ground.specs.Kit.{_≡_, refl, sym, _∙_, List, [], _∷_, ℕ, tagOf, take, drop, OneOf, miss}
 use Rattle.state.specs.declared.{AnswerAt.AnswerAt, DiscAt.DiscAt, Transfer.Transfer}
 use Rattle.state.specs.declared.Transfer.the-variants.{Closed, Answer, Read, Write}
 use Rattle.state.proofs.Transfer.{the-type}
+use Rattle.state.specs.States.{movedOf}
 use Rattle.house.specs.World.{World, Reply}
 use Rattle.house.specs.Theorems.{Ready}
 use Rattle.house.proofs.Houses.{ready-in}
 use Rattle.moves.specs.Replies.{idle}
+use Rattle.moves.proofs.Leaving.{Leaves}
 use Rattle.pulls.specs.Pulling.{answerPulled, readPulled, pullBy, pullOf}
 
 -- the bytes that it gives, from the block buffer or the disc
@@ -51,9 +53,22 @@ module _ (w : World) (out : List ℕ) where
       here t e (answers p f) = rw f (answer-case p (e ∙ f))
       here t e (reads p f) = rw f (read-case p (e ∙ f))
 
+  -- whatever it gives
+  pub pulled-leaves : Leaves w (pullBy (w .state .transfer) w out)
+  unfolding movedOf
+  pulled-leaves =
+      by-pulling (Leaves w) (λ _. record { house = refl; media = refl; power = refl; change = refl })
+      (λ p e. record { house = refl; media = refl; power = refl; change = refl })
+      (λ p e. record { house = refl; media = refl; power = refl; change = refl })
+
 -- what the default of a `match` on the transfer is given, that its tag is none of the others', is enough
-pub unpulled : (w : World) (out : List ℕ) (t : Transfer) → OneOf (0 ∷ 3 ∷ []) (tagOf the-type t) → idle w out ≡ pullBy t w out
-unpulled w out Closed k = refl
-unpulled w out (Answer p) k = absurd (miss (0 ∷ 3 ∷ []) 1 tt k)
-unpulled w out (Read p) k = absurd (miss (0 ∷ 3 ∷ []) 2 tt k)
-unpulled w out (Write p) k = refl
+abbrev others : List ℕ
+others = 0 ∷ 3 ∷ []
+
+pub unpulled : (w : World) (out : List ℕ) (t : Transfer) → OneOf others (tagOf the-type t) → idle w out ≡ pullBy t w out
+unpulled w out t k = here (pulling t)
+  where
+    here : Pulling t → idle w out ≡ pullBy t w out
+    here (idles none same) = sym (same w out)
+    here (answers p e) = absurd (miss others 1 tt (rw e at k))
+    here (reads p e) = absurd (miss others 2 tt (rw e at k))

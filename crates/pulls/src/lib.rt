@@ -2,7 +2,7 @@
 mod blocks;
 
 ghost use Rattle.ground.specs.Kit.{_≡_};
-ghost use Rattle.house.specs.World.{world};
+ghost use Rattle.house.specs.World.{World, inState, inLent};
 ghost use Rattle.moves.specs.Places.{AnswerSpan, ReadSpan};
 ghost use Rattle.moves.specs.Replies.{moved};
 ghost use Rattle.pulls.specs.Pulling.{answerPulled, readPulled, pullOf};
@@ -23,8 +23,8 @@ fn pull_answer(
     disc: &[u8],
 ) -> MoveReply
     requires { ⌜ AnswerSpan from (now buffer) ⌝ }
-    ensures { λ r. ⌜ moved r (now (out .exit)) (now (buffer .entry)) (now (disc .entry))
-        ≡ answerPulled from (world state (now (buffer .entry)) (now (disc .entry))) (now (out .entry)) ⌝ }
+    ensures { λ r. ⌜ ((w : World) → moved r (now (out .exit)) (inLent w (now (buffer .entry)) (now (disc .entry)))
+        ≡ answerPulled from (inState (inLent w (now (buffer .entry)) (now (disc .entry))) state) (now (out .entry))) ⌝ }
 {
     let at = from.at;
     let end = at + from.left;
@@ -44,8 +44,8 @@ fn pull_answer(
 // An open read gives its first min(out, left) bytes from the disc.
 fn pull_read(state: State, from: DiscAt, out: &mut [u8], buffer: &[u8], disc: &[u8]) -> MoveReply
     requires { ⌜ ReadSpan (state .media .disc) from (now disc) ⌝ }
-    ensures { λ r. ⌜ moved r (now (out .exit)) (now (buffer .entry)) (now (disc .entry))
-        ≡ readPulled from (world state (now (buffer .entry)) (now (disc .entry))) (now (out .entry)) ⌝ }
+    ensures { λ r. ⌜ ((w : World) → moved r (now (out .exit)) (inLent w (now (buffer .entry)) (now (disc .entry)))
+        ≡ readPulled from (inState (inLent w (now (buffer .entry)) (now (disc .entry))) state) (now (out .entry))) ⌝ }
 {
     let count = blocks::pull_blocks(from, state.media.disc, disc, out);
     let rest = DiscAt {
@@ -61,8 +61,8 @@ fn pull_read(state: State, from: DiscAt, out: &mut [u8], buffer: &[u8], disc: &[
 }
 
 pub fn pull(state: State, out: &mut [u8], buffer: &[u8], disc: &[u8]) -> MoveReply
-    ensures { λ r. ⌜ moved r (now (out .exit)) (now (buffer .entry)) (now (disc .entry))
-        ≡ pullOf (world state (now (buffer .entry)) (now (disc .entry))) (now (out .entry)) ⌝ }
+    ensures { λ r. ⌜ ((w : World) → moved r (now (out .exit)) (inLent w (now (buffer .entry)) (now (disc .entry)))
+        ≡ pullOf (inState (inLent w (now (buffer .entry)) (now (disc .entry))) state) (now (out .entry))) ⌝ }
 {
     let house = house::move_house(state, buffer.len(), disc.len());
     if house::number_of(house) != 0 {

@@ -1,12 +1,12 @@
 -- Every step that the state takes keeps it sound. Assumes nothing.
-use Rattle.ground.specs.Kit.{_≡_, refl, Bool, true, false, cond, not, _&&_, _||_, false≢true, ℕ, _≤_, le-leb, ne-eqb, eqb, leb}
+use Rattle.ground.specs.Kit.{_≡_, refl, Bool, true, false, cond, not, _&&_, _||_, ℕ, _≤_, le-leb, ne-eqb, eqb, leb}
 use Rattle.state.specs.declared.{Sense.Sense, Media.Media, State.State, Transfer.Transfer}
 use Rattle.ground.proofs.Truth.{both}
-use Rattle.state.specs.declared.Transfer.the-variants.{Closed, Answer, Read, Write}
 use Rattle.state.specs.Senses.{noDisc, namedB}
 use Rattle.state.specs.States.{leftOf, isOpenB, closedAtZero, insertedOf, ejectedOf, obeyedOf, movedOf}
 use Rattle.state.proofs.Closing.{by-left}
-use Rattle.sound.specs.Soundness.{onDiscB, openSoundB, soundB}
+use Rattle.sound.specs.Soundness.{openSoundB, soundB}
+use Rattle.sound.proofs.Opened.{Discless, shut, answers, discless}
 
 -- the clauses of soundness
 pub record Parts (s : State) : Type 0 where
@@ -42,11 +42,12 @@ module _ (s : State) (e : soundB s ≡ true) (t : Transfer) (some : (leftOf t �
 
 -- a transfer that is open without a disc stays sound with one
 with-disc : (m n : Media) → m .disc ≡ 0 → (t : Transfer) → openSoundB m t ≡ true → openSoundB n t ≡ true
-unfolding openSoundB onDiscB
-with-disc m n none Closed e = refl
-with-disc m n none (Answer p) e = e
-with-disc m n none (Read p) e = absurd (false≢true (rw none at e))
-with-disc m n none (Write p) e = absurd (false≢true (rw none at e))
+unfolding openSoundB
+with-disc m n none t e = here (discless m none t e)
+  where
+    here : Discless t → openSoundB n t ≡ true
+    here (shut q) = rw q
+    here (answers p q) = rw q (rw q at e)
 
 pub inserted-sound : (s : State) (number : ℕ) (prot : Bool) → s .media .disc ≡ 0 → (number ≡ 0 → ⊥) → number ≤ 4 → soundB s ≡ true
     → soundB (insertedOf s number prot) ≡ true

@@ -1,5 +1,5 @@
 -- What soundness says of an open transfer, in numbers, and back. Assumes nothing.
-use Rattle.ground.specs.Kit.{_≡_, refl, true, false, not, _&&_, true≢false, false≢true, ℕ, _+_, _%_, _≤_, _<_, eqb-true, eqb-false, leb-true, ltb-true, ne-eqb, le-leb, lt-ltb, not-true, eqb, leb, ltb}
+use Rattle.ground.specs.Kit.{_≡_, refl, true, not, _&&_, ℕ, _+_, _%_, _≤_, _<_, arith, eqb-true, eqb-false, leb-true, ltb-true, ne-eqb, le-leb, lt-ltb, not-true, eqb, leb, ltb}
 use Rattle.state.specs.declared.{AnswerAt.AnswerAt, DiscAt.DiscAt, Media.Media, Transfer.Transfer}
 use Rattle.disc.specs.Formats.{bufferBytes, blockBytes, discBytes}
 use Rattle.ground.proofs.Truth.{both}
@@ -82,17 +82,25 @@ module _ (m : Media) (p : DiscAt) where
   unfolding openSoundB
   writes-sound w = rw (on-disc-sound (m .disc) p (w .on), ends-sound (m .disc) p (w .ends), w .bare)
 
--- whatever is open has bytes left
-pub some-left : (m : Media) (t : Transfer) → openSoundB m t ≡ true → isOpenB t ≡ true → 0 < leftOf t
-unfolding openSoundB
-some-left m Closed e o = absurd (false≢true o)
-some-left m (Answer p) e o = in-buffer m p e .some
-some-left m (Read p) e o = on-disc (m .disc) p e .some
-some-left m (Write p) e o = writes m p e .on .some
+some : (n : ℕ) → 0 < n → true ≡ not (eqb n 0)
+some n h = rw (ne-eqb n 0 (λ z. omega arith))
 
--- and what isn't has none
-pub none-left : (t : Transfer) → isOpenB t ≡ false → leftOf t ≡ 0
-none-left Closed o = refl
-none-left (Answer p) o = absurd (true≢false o)
-none-left (Read p) o = absurd (true≢false o)
-none-left (Write p) o = absurd (true≢false o)
+-- whatever is open has bytes left, and what isn't has none
+pub open-left : (m : Media) (t : Transfer) → openSoundB m t ≡ true → isOpenB t ≡ not (eqb (leftOf t) 0)
+unfolding openSoundB
+open-left m Closed e = refl
+open-left m (Answer p) e = some (p .left) (in-buffer m p e .some)
+open-left m (Read p) e = some (p .left) (on-disc (m .disc) p e .some)
+open-left m (Write p) e = some (p .left) (writes m p e .on .some)
+
+-- without a disc nothing but an answer is open
+pub data Discless (t : Transfer) : Type 0 where
+  shut : t ≡ Closed → Discless t
+  answers : (p : AnswerAt) → t ≡ Answer p → Discless t
+
+pub discless : (m : Media) → m .disc ≡ 0 → (t : Transfer) → openSoundB m t ≡ true → Discless t
+unfolding openSoundB
+discless m none Closed e = shut refl
+discless m none (Answer p) e = answers p refl
+discless m none (Read p) e = absurd (on-disc (m .disc) p e .is-in none)
+discless m none (Write p) e = absurd (writes m p e .on .is-in none)

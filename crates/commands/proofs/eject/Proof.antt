@@ -11,4 +11,4 @@ eject-spec =
     (λ _ _. tt)
     (λ _ _. tt)
     (λ _ _. tt)
-    (λ c. c .unless-refused .ensures ∙ rw (c .before .ejected .ensures, c .before .before .eject-house .ensures)))
+    (λ c. c .event .ensures ∙ rw (c .before .ejected .ensures, c .before .before .eject-house .ensures)))

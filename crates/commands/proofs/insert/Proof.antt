@@ -11,4 +11,4 @@ insert-spec =
     (λ _ _. tt)
     (λ _ _. tt)
     (λ _ _. tt)
-    (λ c. c .unless-refused .ensures ∙ rw (c .before .inserted .ensures, c .before .before .insert-house .ensures)))
+    (λ c. c .event .ensures ∙ rw (c .before .inserted .ensures, c .before .before .insert-house .ensures)))

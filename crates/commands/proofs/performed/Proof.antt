@@ -1,27 +1,27 @@
 use Rattle.ground.specs.Kit.{_≡_, ap, needs}
 use Rattle.packet.specs.Fields.{addressOf, lengthOf}
-use Rattle.house.specs.World.{world}
+use Rattle.house.specs.World.{inState, inBuffer}
 use Rattle.commands.specs.Obeying.{spanOf, answered, performedOf}
 use Rattle.commands.proofs.performed.Statement.{statement}
 use Rattle.commands.proofs.performed.Tie as tie
 
 returns : tie.Need-returns
 unfolding performedOf
-returns c disc = rw (c .before .enum-told .given .1, c .passed .ensures)
+returns c w = rw (c .before .enum-told .given .1, c .passed .ensures)
 
 returns-2 : tie.Need-returns-2
 unfolding performedOf
-returns-2 c disc = rw (c .before .before .enum-told2 .given .1, c .passed2 .ensures, c .before .byte .ensures)
+returns-2 c w = rw (c .before .before .enum-told2 .given .1, c .passed2 .ensures, c .before .byte .ensures)
 
 returns-3 : tie.Need-returns-3
 unfolding performedOf
-returns-3 c disc =
+returns-3 c w =
     let give = c .before .before .before in
     let routine = give .before .before .before in
     let length = routine .before .before .before .before in
     let x = length .before .before .before .before .before .args in
     rw (routine .routine .given .1, c .passed3 .ensures, ← length .length .ensures)
-    (ap (answered (world (x .state) (x .buffer .now) disc)) (give .give .ensures))
+    (ap (answered (inBuffer (inState w (x .state)) (x .buffer .now))) (give .give .ensures))
 
 spanned : (c : tie.After-span)
     → let x = c .before .before .before .before .before .before .before .args in
@@ -30,13 +30,13 @@ spanned c = rw (c .span .ensures, c .before .address .ensures, c .before .before
 
 returns-4 : tie.Need-returns-4
 unfolding performedOf
-returns-4 c disc =
+returns-4 c w =
     let told = c .before in
     rw (told .enum-told3 .given .1, c .passed4 .ensures, spanned (told .before .before))
 
 returns-5 : tie.Need-returns-5
 unfolding performedOf
-returns-5 c disc =
+returns-5 c w =
     let told = c .before in
     rw (told .enum-told4 .given .1, c .passed5 .ensures, spanned (told .before .before))
 

@@ -1,5 +1,5 @@
 use Rattle.ground.specs.Kit.{sym, _∙_, needs, ne-eqb}
-use Rattle.house.specs.World.{World, world}
+use Rattle.house.specs.World.{World, inState, inLent, someWorld}
 use Rattle.house.specs.Theorems.{Ready}
 use Rattle.house.proofs.Houses.{in-ready}
 use Rattle.moves.proofs.Spans.{may-write}
@@ -10,32 +10,32 @@ use Rattle.feeds.proofs.feed.Tie as tie
 
 returns : tie.Need-returns
 unfolding feedOf
-returns c = rw (← c .before .before .move-house .ensures, ← c .before .number-of .ensures, ne-eqb _ _ (c .if1 .taken))
+returns c w = rw (← c .before .before .move-house .ensures, ← c .before .number-of .ensures, ne-eqb _ _ (c .if1 .taken))
 
-abbrev entered : tie.Else1 → World
-entered c = let x = c .before .before .before .before .before .before .args in world (x .state) (x .buffer .now) (x .disc .now)
+abbrev entered : tie.Else1 → World → World
+entered c w = let x = c .before .before .before .before .before .before .args in inState (inLent w (x .buffer .now) (x .disc .now)) (x .state)
 
-ready : (c : tie.Else1) → Ready (entered c)
-ready c = in-ready (entered c) (sym (c .before .before .move-house .ensures) ∙ sym (c .before .number-of .ensures) ∙ c .if1 .left)
+ready : (c : tie.Else1) (w : World) → Ready (entered c w)
+ready c w = in-ready (entered c w) (sym (c .before .before .move-house .ensures) ∙ sym (c .before .number-of .ensures) ∙ c .if1 .left)
 
 feed-write-requires : tie.Need-feed-write-requires
 feed-write-requires c _ =
     let transfer = c .before .before .before in
     let past = transfer .before .before in
-    (may-write (entered past) (ready past) _ (transfer .transfer .given .1), ready past .buffer)
+    (may-write (entered past someWorld) (ready past someWorld) _ (transfer .transfer .given .1), ready past someWorld .buffer)
 
 returns-2 : tie.Need-returns-2
-returns-2 c =
+returns-2 c w =
     let call = c .before .before .before .before in
     let transfer = call .before .before .before .before in
     let past = transfer .before .before in
-    call .feed-write .ensures ∙ feeds-write (entered past) _ (ready past) _ (transfer .transfer .given .1)
+    call .feed-write .ensures w ∙ feeds-write (entered past w) _ (ready past w) _ (transfer .transfer .given .1)
 
 returns-3 : tie.Need-returns-3
-returns-3 c =
+returns-3 c v =
     let past = c .before in
-    let w = entered past in
-    rw (feeds w _ (ready past)) (unfed w _ (w .state .transfer) (c .match .keys2))
+    let w = entered past v in
+    rw (feeds w _ (ready past v)) (unfed w _ (w .state .transfer) (c .match .keys2))
 
 pub feed-spec : {M : Type 1} → statement M
 feed-spec =

@@ -1,8 +1,8 @@
-use Rattle.ground.specs.Kit.{_≡_, ap, false, _≤_, min, arith, length, needs}
+use Rattle.ground.specs.Kit.{_≡_, ap, false, min, arith, length, needs}
 use Rattle.disc.specs.Formats.{blockBytes}
 use Rattle.state.specs.States.{movedOf}
 use Rattle.state.specs.declared.Transfer.the-variants.{Write}
-use Rattle.house.specs.World.{world, Reply, reply}
+use Rattle.house.specs.World.{inState, inLent, reply}
 use Rattle.moves.specs.Replies.{discAfter}
 use Rattle.feeds.specs.Feeding.{Writing, writing, written}
 use Rattle.feeds.proofs.Feeding.{taken-count}
@@ -20,13 +20,13 @@ count call =
     (call .feed-blocks .ensures)
 
 returns : tie.Need-returns
-returns c =
+returns c v =
     let call = c .before .before .before .before .before .before .before in
     let x = call .before .before .before .before .before .before .args in
-    let w = world (x .state) (x .buffer .now) (x .disc .now) in
+    let w = inState (inLent v (x .buffer .now) (x .disc .now)) (x .state) in
     let n = min (length (x .piece .now)) (x .from .left) in
     rw (c .moved .ensures, count call)
-    (ap (λ (v : Writing). reply 0 false n (x .piece .now) (written w (movedOf (x .state) (Write (discAfter (x .from) n))) v)) (call .feed-blocks .ensures))
+    (ap (λ (u : Writing). reply 0 false n (x .piece .now) (written w (movedOf (x .state) (Write (discAfter (x .from) n))) u)) (call .feed-blocks .ensures))
 
 pub feed-write-spec : {M : Type 1} → statement M
 feed-write-spec =

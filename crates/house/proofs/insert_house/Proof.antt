@@ -1,4 +1,4 @@
-use Rattle.ground.specs.Kit.{_≡_, true, false, not, _||_, eqb, ltb, eq-eqb, ne-eqb}
+use Rattle.ground.specs.Kit.{_≡_, false, not, _||_, eqb, ltb, eq-eqb, ne-eqb}
 use Rattle.disc.specs.Formats.{discBytes}
 use Rattle.sound.specs.Soundness.{soundB}
 use Rattle.house.specs.Refusals.{insertTests}

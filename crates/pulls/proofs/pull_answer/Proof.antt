@@ -1,7 +1,7 @@
 use Rattle.ground.specs.Kit.{_≡_, ap, _∙_, _+_, _-_, min, min-comm, arith, length, drop, needs}
 use Rattle.ground.specs.Filling.{Filled, filled}
 use Rattle.state.specs.declared.Transfer.the-variants.{Answer}
-use Rattle.house.specs.World.{world}
+use Rattle.house.specs.World.{inState, inLent}
 use Rattle.moves.specs.Replies.{answerAfter}
 use Rattle.pulls.specs.Pulling.{servedOf}
 use Rattle.pulls.proofs.Pulling.{fill-part, pulled-by}
@@ -25,10 +25,10 @@ count : (call : tie.After-fill) → let x = call .before .before .before .before
 count call = ap (λ (f : Filled). f .count) (served call)
 
 returns : tie.Need-returns
-returns c =
+returns c w =
     let call = c .before .before .before .before in
     let x = call .before .before .before .before .before .before .before .args in
-    pulled-by (world (x .state) (x .buffer .now) (x .disc .now)) (λ n. Answer (answerAfter (x .from) n)) _ _ _ _ (served call) (c .moved .ensures)
+    pulled-by (inState (inLent w (x .buffer .now) (x .disc .now)) (x .state)) (λ n. Answer (answerAfter (x .from) n)) _ _ _ _ (served call) (c .moved .ensures)
 
 pub pull-answer-spec : {M : Type 1} → statement M
 pull-answer-spec =

@@ -1,7 +1,7 @@
 use Rattle.ground.specs.Kit.{_≡_, ap, min, length, arith, needs}
 use Rattle.ground.specs.Filling.{Filled}
 use Rattle.state.specs.declared.Transfer.the-variants.{Read}
-use Rattle.house.specs.World.{world}
+use Rattle.house.specs.World.{inState, inLent}
 use Rattle.moves.specs.Replies.{discAfter}
 use Rattle.pulls.proofs.Pulling.{pulled-by}
 use Rattle.pulls.proofs.pull_read.Statement.{statement}
@@ -13,10 +13,10 @@ count : (call : tie.After-pull-blocks)
 count call = ap (λ (f : Filled). f .count) (call .pull-blocks .ensures)
 
 returns : tie.Need-returns
-returns c =
+returns c w =
     let call = c .before .before .before .before .before in
     let x = call .before .before .before .before .before .args in
-    pulled-by (world (x .state) (x .buffer .now) (x .disc .now)) (λ n. Read (discAfter (x .from) n)) _ _ _ _ (call .pull-blocks .ensures) (c .moved .ensures)
+    pulled-by (inState (inLent w (x .buffer .now) (x .disc .now)) (x .state)) (λ n. Read (discAfter (x .from) n)) _ _ _ _ (call .pull-blocks .ensures) (c .moved .ensures)
 
 pub pull-read-spec : {M : Type 1} → statement M
 pull-read-spec =

@@ -21,12 +21,14 @@ After c =
 
 gathers : (c : tie.After-fill)
     → let x = c .before .before .before .before .before .before .args in
-    Copied (c .before .before .block-bytes .result) (x .place .0) (x .piece .now) (x .buffer .now) (After c) (c .fill .result)
+    let block = c .before .before .block-bytes .result in
+    Copied (x .place .0 % block) (block - x .place .0 % block) (x .piece .now) (x .buffer .now) (After c) (c .fill .result)
 gathers c =
     let block = c .before .before in
     let x = block .before .before .before .before .args in
     let k = known block in
-    copied (block .block-bytes .result) (x .place .0) (length (x .disc .now)) k (x .piece .now) (x .buffer .now) (omega arith) (c .fill .result)
+    let b = block .block-bytes .result in
+    copied (x .place .0 % b) (b - x .place .0 % b) (x .piece .now) (x .buffer .now) (omega arith) (c .fill .result)
     (c .fill .last .1 .0)
     (c .fill .ensures)
 

@@ -1,10 +1,11 @@
-use Rattle.ground.specs.Kit.{_≡_, sym, ap, ℕ, _+_, _-_, _≤_, arith, needs, length, length-replicate, length-take-le, take-append-le}
+use Rattle.ground.specs.Kit.{_≡_, sym, ap, ℕ, _+_, _-_, _≤_, arith, needs, length, length-replicate, take, length-take-le, take-append-le}
 use Rattle.record.specs.declared.{Record.Record}
 use Rattle.house.specs.World.{World, world, Reply}
+use Rattle.ground.specs.Bytes.{zeros}
 use Rattle.drive.specs.Calls.{callOf}
 use Rattle.record.specs.declared.Record.the-variants.{Command, Feed, Pull}
 use Rattle.record.specs.Holding.{Holds}
-use Rattle.player.specs.Playing.{calledOf, pulledOf}
+use Rattle.player.specs.Playing.{calledOf, pullSaid}
 use Rattle.player.proofs.Lending.{seen-within, seen-there, whole, insert-says, eject-says, count-within, holding, zeros-first}
 use Rattle.player.proofs.playing.play.Statement.{statement}
 use Rattle.player.proofs.playing.play.Tie as tie
@@ -59,7 +60,7 @@ commanded c =
     let call = c .before .before .before in
     let told = call .before .before .before .before in
     let seen = told .before .before in
-    rw (← seen .before .first-record .ensures, told .enum-told2 .given .1, c .commanded .ensures, ← seen .seen .ensures, ← call .command .ensures, whole)
+    rw (← seen .before .first-record .ensures, told .enum-told2 .given .1, c .commanded .ensures, ← seen .seen .ensures, ← call .command .ensures (bench seen), whole)
 
 fed : tie.Need-returns-4
 unfolding calledOf callOf
@@ -69,17 +70,19 @@ fed c =
     let seen = told .before .before in
     let n = told .told2 .given .0 .0 in
     let behind : 4 + n - 4 ≡ n = omega arith in
-    rw (← seen .before .first-record .ensures, told .told2 .given .1, c .moved .ensures, ← seen .seen .ensures, ← (rw behind at (call .feed .ensures)), call .feed .kept .1 .1 .1 .0, ← seen-there _ _ _ (seen .seen .ensures))
+    rw (← seen .before .first-record .ensures, told .told2 .given .1, c .moved .ensures, ← seen .seen .ensures, ← (rw behind at (call .feed .ensures (bench seen))), call .feed .kept .1 .1 .1 .0, ← seen-there _ _ _ (seen .seen .ensures))
 
 pulled : tie.Need-returns-5
-unfolding pulledOf callOf
+unfolding pullSaid callOf
 pulled c =
     let call = c .before .before .before in
     let told = call .before .before .before .before .before in
     let seen = told .before .before in
     let few = holds seen (Pull _) (told .told3 .given .1) .1 in
-    let fits : call .pull .result .count ≤ length (call .pull .last .1 .0) = rw (call .pull .kept .1 .0, ap (λ (r : Reply). r .heard .count) (call .pull .ensures)) (count-within _ _) in
-    rw (← seen .before .first-record .ensures, told .told3 .given .1, c .moved2 .ensures, take-append-le _ _ _ fits, ← seen .seen .ensures, ← (rw (start seen .pre, zeros-first _ 512 few) at (call .pull .ensures)), whole)
+    let fits : call .pull .result .count ≤ length (call .pull .last .1 .0) = rw (call .pull .kept .1 .0, ap (λ (r : Reply). r .heard .count) (call .pull .ensures (bench seen))) (count-within _ _) in
+    let n = told .told3 .given .0 .0 in
+    let into : take n (start seen .args .out .now) ≡ zeros n = rw (start seen .pre) (zeros-first n 512 few) in
+    rw (← seen .before .first-record .ensures, told .told3 .given .1, c .moved2 .ensures, take-append-le _ _ _ fits, ← seen .seen .ensures, ← into, ← call .pull .ensures (bench seen), whole)
 
 pub play-spec : {M : Type 1} → statement M
 play-spec =

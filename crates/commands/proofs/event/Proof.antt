@@ -1,9 +1,9 @@
 use Rattle.ground.specs.Kit.{ne-eqb}
-use Rattle.commands.proofs.unless_refused.Statement.{statement}
-use Rattle.commands.proofs.unless_refused.Tie as tie
+use Rattle.commands.proofs.event.Statement.{statement}
+use Rattle.commands.proofs.event.Tie as tie
 
-pub unless-refused-spec : {M : Type 1} → statement M
-unless-refused-spec =
+pub event-spec : {M : Type 1} → statement M
+event-spec =
     tie.close
     (tie.spec
     (λ _ _. tt)
