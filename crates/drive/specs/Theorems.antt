@@ -38,12 +38,14 @@ OneEvent = (e : Event) (r q : EventReply) → happened r ≡ e → happened q �
 -- a command, and the block buffer
 abbrev pub OneCommand : Type 0
 OneCommand =
-    (a : Reply) (w : World) (disc : List ℕ) (r q : CommandReply) (b c : List ℕ) → commanded r (inLent w b disc) ≡ a → commanded q (inLent w c disc) ≡ a → (r ≡ q) × (b ≡ c)
+    (a : Reply) (w : World) (disc : List ℕ) (r q : CommandReply) (b c : List ℕ) → commanded r (inLent w b disc) ≡ a
+    → commanded q (inLent w c disc) ≡ a → (r ≡ q) × (b ≡ c)
 
 -- a feed or a pull, the caller's buffer, the block buffer and the disc
 abbrev pub OneMove : Type 0
 OneMove =
-    (a : Reply) (w : World) (r q : MoveReply) (x y b c d e : List ℕ) → moved r x (inLent w b d) ≡ a → moved q y (inLent w c e) ≡ a → (r ≡ q) × (x ≡ y) × (b ≡ c) × (d ≡ e)
+    (a : Reply) (w : World) (r q : MoveReply) (x y b c d e : List ℕ) → moved r x (inLent w b d) ≡ a
+    → moved q y (inLent w c e) ≡ a → (r ≡ q) × (x ≡ y) × (b ≡ c) × (d ≡ e)
 
 -- ---- "Hence at any cut a block on the disc is all old or all new."
 
