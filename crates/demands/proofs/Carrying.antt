@@ -14,7 +14,7 @@ use Rattle.packet.specs.declared.Known.the-variants.{Base}
 use Rattle.packet.specs.declared.Routine.the-variants.{Nothing, Motor, Answer, Read, Write}
 use Rattle.packet.proofs.BaseCommands.{of-base, opensB, writesB}
 use Rattle.checks.specs.Verdicts.{checksOf, verdict}
-use Rattle.house.specs.World.{World, inState, inBuffer, inDisc, Reply, reply}
+use Rattle.house.specs.World.{World, inState, inLent, Reply, reply}
 use Rattle.house.specs.Theorems.{Ready}
 use Rattle.commands.specs.Obeying.{spanOf, routineOf, performedOf}
 use Rattle.commands.proofs.Judging.{let-in}
@@ -170,7 +170,7 @@ Same way d e Kept =
 
 -- the world after a command that has passed, was carried through and moved bytes
 abbrev settled : World → Bytes → World
-settled w m = inDisc (inBuffer (inState w (obeyedOf (w .state) noSense (w .state .motor) Closed)) (m .buffer)) (m .disc)
+settled w m = inLent (inState w (obeyedOf (w .state) noSense (w .state .motor) Closed)) (m .buffer) (m .disc)
 
 abbrev carriedAs : World → Bytes → Carried
 carriedAs w m = carried true (m .out) (settled w m)

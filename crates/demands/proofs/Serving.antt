@@ -4,7 +4,7 @@ use Rattle.state.specs.declared.{Media.Media, State.State, AnswerAt.AnswerAt, D
 use Rattle.disc.specs.Formats.{blockBytes}
 use Rattle.state.specs.States.{leftOf, closedAtZero, movedOf}
 use Rattle.state.specs.declared.Transfer.the-variants.{Closed, Answer, Read, Write}
-use Rattle.house.specs.World.{World, inState, inBuffer, inDisc}
+use Rattle.house.specs.World.{World, inState, inLent}
 use Rattle.house.specs.Theorems.{Ready}
 use Rattle.moves.specs.Replies.{idle}
 use Rattle.feeds.specs.Feeding.{writing, feedBytes, writeFed, feedOf}
@@ -56,7 +56,7 @@ abbrev pub moving : Kind → World → ℕ → ℕ → List ℕ → Lent
 moving k w at left x =
     let n = min (length x) left in
     let b = k .does (w .state .media .disc) at n x (w .buffer) (w .disc) in
-    lent n (b .out) (inDisc (inBuffer (inState w (k .next (w .state) (b .buffer) (at + n) (left - n))) (b .buffer)) (b .disc))
+    lent n (b .out) (inLent (inState w (k .next (w .state) (b .buffer) (at + n) (left - n))) (b .buffer) (b .disc))
 
 -- the next state has the transfer on its way, the disc still in, and is made of the state before alone
 pub record GoesOn (transfer : ℕ → ℕ → Transfer) (next : State → List ℕ → ℕ → ℕ → State) : Type 0 where
@@ -109,7 +109,7 @@ module _ {d : Device} {way : List ℕ → Call} {k : Kind} (s : Serves d way k) 
       let both : ℕ → Lent = λ m.
       let two = k .does m (at + 1) n xs (one .buffer) (one .disc) in
       lent (1 + n) (one .out ++ two .out)
-      (inDisc (inBuffer (inState w (k .next then (two .buffer) (at + 1 + n) (left - 1 - n))) (two .buffer)) (two .disc)) in
+      (inLent (inState w (k .next then (two .buffer) (at + 1 + n) (left - 1 - n))) (two .buffer) (two .disc)) in
       let first : moving k w at left (x ∷ xs) ≡ both number =
       rw (e₁, e₃, e₄, s .more number at n (x ∷ []) xs (w .buffer) (w .disc), s .goes .again (w .state) (one .buffer) _ (at + 1) (left - 1) (at + 1 + n) (left - 1 - n)) in
       rw e₂ (first ∙ ap both (sym (ap (λ (m : Media). m .disc) (s .goes .media (w .state) (one .buffer) (at + 1) (left - 1)))))

@@ -1,12 +1,13 @@
 -- Demand 2: "Each command passes or fails by UFI revision 1.0 as narrowed in paper 01, with the triple of the first check that fails.
 -- While only our calls touch the disc, each block read holds the bytes last stored whole since insertion, else those it came in with.
 -- After an accepted insertion, while power stays on, only INQUIRY and REQUEST SENSE pass until some command has answered 06 28 00."
-use Rattle.ground.specs.Kit.{_≡_, Bool, true, false, cond, not, _&&_, _||_, List, [], _∷_, _++_, flatten, ℕ, min, eqb, length, take, drop}
-use Rattle.state.specs.Senses.{changeTold, noDisc, sameB}
+use Rattle.ground.specs.Kit.{_≡_, Bool, true, false, cond, not, _||_, List, [], _∷_, _++_, flatten, ℕ, min, eqb, length, take, drop}
+use Rattle.state.specs.Senses.{noDisc}
 use Rattle.packet.specs.Rules.{codeOf}
 use Rattle.checks.specs.Verdicts.{verdict}
 use Rattle.house.specs.World.{World, inState, Heard, heard}
 use Rattle.drive.specs.Calls.{Call, Insert, Eject, Command, Feed, Pull, returned, houseOf}
+use Rattle.drive.specs.Theorems.{answersChangeB}
 use Rattle.demands.specs.Device.{Device, after}
 use Rattle.demands.specs.Answered.{judgedOf}
 use Rattle.demands.specs.Ledger.{Ledger, blank, fed, known, noted}
@@ -70,7 +71,7 @@ pub record Accounted (d : Device) (r : Run) : Type 0 where
 abbrev pub answersB : Call → Heard → Bool
 answersB (Insert number prot disc) h = false
 answersB Eject h = false
-answersB (Command p) h = eqb (h .house) 0 && not (h .passed) && sameB (h .sense) changeTold
+answersB (Command p) h = answersChangeB h
 answersB (Feed piece) h = false
 answersB (Pull out) h = false
 

@@ -76,8 +76,8 @@ discardsFeeds = feeding (λ w piece a. leaving a (inState w (a .world .state)))
 
 -- ---- "One that serves only the first block or first pull of a transfer"
 
-abbrev firstOf : ℕ → DiscAt → DiscAt
-firstOf n p = record { at = p .at; left = min n (p .left) }
+abbrev atMost : ℕ → DiscAt → DiscAt
+atMost n p = record { at = p .at; left = min n (p .left) }
 
 -- by an open read, by an open write, and without either
 abbrev pub byDisc : {A : Type 0} → (DiscAt → A) → (DiscAt → A) → A → Transfer → A
@@ -87,7 +87,7 @@ byDisc reads writes other (Read p) = reads p
 byDisc reads writes other (Write p) = writes p
 
 abbrev shortened : ℕ → Transfer → Transfer
-shortened n t = byDisc (λ p. Read (firstOf n p)) (λ p. Write (firstOf n p)) t t
+shortened n t = byDisc (λ p. Read (atMost n p)) (λ p. Write (atMost n p)) t t
 
 abbrev with : World → Transfer → World
 with w t = inState w (stateOf (w .state .media) (w .state .motor) (w .state .host) t)

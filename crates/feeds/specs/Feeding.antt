@@ -5,7 +5,7 @@ use Rattle.state.specs.declared.{State.State, DiscAt.DiscAt, Transfer.Transfer}
 use Rattle.disc.specs.Formats.{blockBytes}
 use Rattle.state.specs.States.{movedOf}
 use Rattle.state.specs.declared.Transfer.the-variants.{Closed, Answer, Read, Write}
-use Rattle.house.specs.World.{World, inState, inBuffer, inDisc, Reply, reply, unlessRefused}
+use Rattle.house.specs.World.{World, inState, inLent, Reply, reply, unlessRefused}
 use Rattle.house.specs.Refusals.{moveHouse}
 use Rattle.moves.specs.Replies.{idle, onward, discAfter}
 
@@ -32,7 +32,7 @@ feedBytes b v (x ∷ xs) = feedBytes b (feedByte b v x) xs
 
 -- a world with another state, and with the block buffer and the disc that were written
 abbrev pub written : World → State → Writing → World
-written w next v = inDisc (inBuffer (inState w next) (v .buffer)) (v .disc)
+written w next v = inLent (inState w next) (v .buffer) (v .disc)
 
 -- an open write: "A feed takes the first min(piece, left) bytes; the remainder of the piece is the caller's, reported by the count."
 abbrev pub writeFed : DiscAt → World → List ℕ → Reply
