@@ -10,9 +10,8 @@ use Rattle.sound.proofs.Keeping.{parts}
 use Rattle.sound.proofs.Opened.{Discless, shut as is-shut, answers, discless}
 use Rattle.house.specs.World.{World}
 use Rattle.house.proofs.Houses.{insert-admits}
-use Rattle.feeds.specs.Feeding.{writing}
-use Rattle.feeds.proofs.ByTransfer.{takes}
-use Rattle.pulls.proofs.ByTransfer.{gives}
+use Rattle.feeds.specs.Feeding.{writing, takes}
+use Rattle.pulls.specs.Pulling.{gives}
 use Rattle.drive.specs.Calls.{Insert, Eject, houseOf}
 use Rattle.drive.proofs.Calling.{acceptedOf}
 use Rattle.demands.specs.Ledger.{Store, Ledger, noted}
@@ -28,7 +27,7 @@ pub record Opened (b : ℕ) (buffer disc : List ℕ) (stored : Store) (left : �
   pub all : takes t + length (gives buffer disc t) ≡ leftOf t
   pub gathered : (p : DiscAt) → t ≡ Write p → Gathered b stored (writing (p .at) buffer disc)
 
-none-listed : (xs : List ℕ) → length xs ≡ 0 → xs ≡ []
+pub none-listed : (xs : List ℕ) → length xs ≡ 0 → xs ≡ []
 none-listed [] e = refl
 none-listed (x ∷ xs) e = absurd (omega arith)
 

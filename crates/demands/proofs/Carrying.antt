@@ -59,7 +59,7 @@ record Carrying : Type 0 where
   lending : Way device way
   serves : Serves device way kind
   goes-on : (s : State) (b : List ℕ) (at left : ℕ) → kind .next s b at left ≡ movedOf s (kind .transfer at left)
-  commands : (w : World) (q : List ℕ) → device .call w (Command q) ≡ callOf w (Command q)
+  commands : (w : World) (q : List ℕ) → Ready w → device .call w (Command q) ≡ callOf w (Command q)
   opens : opensB routine ≡ true
   by-code : (p : List ℕ) (rule : Rule) → ruleOf p ≡ Base rule → isIn (codeOf p) codes ≡ true → rule .routine ≡ routine
   performs :
@@ -88,7 +88,7 @@ is-write Write e = refl
 
 -- a device whose commands are ours
 abbrev pub OurCommands : Device → Type 0
-OurCommands d = (w : World) (q : List ℕ) → d .call w (Command q) ≡ callOf w (Command q)
+OurCommands d = (w : World) (q : List ℕ) → Ready w → d .call w (Command q) ≡ callOf w (Command q)
 
 -- and that gives as many bytes as the disc has
 abbrev pub GivesAll : Gives → Type 0
@@ -227,8 +227,8 @@ module _ (c : Carrying) where
       carried (a .heard .passed) (take (m .count) (m .out)) (m .world)
 
   -- the reply is ours
-  as-commanded : (w : World) (q : List ℕ) (pieces : List (List ℕ)) → carry (c .device) (c .way) w q pieces ≡ lendFor (callOf w (Command q)) pieces
-  as-commanded w q pieces = ap (λ (a : Reply). lendFor a pieces) (c .commands w q)
+  as-commanded : (w : World) (q : List ℕ) (pieces : List (List ℕ)) → Ready w → carry (c .device) (c .way) w q pieces ≡ lendFor (callOf w (Command q)) pieces
+  as-commanded w q pieces r = ap (λ (a : Reply). lendFor a pieces) (c .commands w q r)
 
   module _ (w : World) (r : Ready w) (rule : Rule) (performs : rule .routine ≡ c .routine) (q : List ℕ) (from n : ℕ)
       (says : Says (w .state .media) (w .state .host) rule q from n) where
@@ -273,7 +273,7 @@ module _ (c : Carrying) where
           let l = data-long number n pieces t in
           let within = run-within number from n (says .within) in
           let room : runBytes number from + length x ≤ length (w .disc) = rw (l, r .disc) within in
-          as-commanded w q pieces
+          as-commanded w q pieces r
           ∙ ap (λ (a : Reply). lendFor a pieces) obeyed
           ∙ ap (λ (m : Lent). carried true (take (m .count) (m .out)) (m .world)) lent-through
           ∙ rw (take-at (all .out) (drop left (flatten pieces)) left (c .long number (runBytes number from) x (w .buffer) (w .disc) room ∙ l))
@@ -286,7 +286,7 @@ module _ (c : Carrying) where
       let v = callOf w (Command q) .world in
       let rv = stays w (Command q) r in
       let after = subst (λ (l : Lent). Ready (l .world)) (sym (lent-whole (c .lending) v pieces rv)) (c .lending .ready v (flatten pieces) rv) in
-      subst (λ (y : Carried). Ready (y .world)) (sym (as-commanded w q pieces)) after
+      subst (λ (y : Carried). Ready (y .world)) (sym (as-commanded w q pieces r)) after
 
   module _ (d : Device) (Kept : List (List ℕ) → Type 0) (as-ours : Same (c .way) (c .device) d Kept)
       (rule : Rule) (performs : rule .routine ≡ c .routine) (p : List ℕ) (known : ruleOf p ≡ Base rule) (a l : ℕ) where
@@ -308,7 +308,7 @@ module _ (c : Carrying) where
         let number = w .state .media .disc in
         let n = x .blocks in
         let q = alike (rule .length) p from n in
-        let q-says = alike-says (w .state .media) (w .state .host) rule p (opens-blocks rule performs) a l from n says (through .0) low (omega arith) in
+        let q-says = alike-says (w .state .media) (w .state .host) rule p (opens-blocks rule performs) a l from n says (omega (arith, through .0)) low (omega arith) in
         let one = all-moved w (from .0) (dataOf number n (x .pieces)) in
         let e = carried-through w r rule performs q (from .0) n q-says (x .pieces) (through .1) in
         let ready = subst (λ (y : Carried). Ready (y .world)) e (carry-ready w q (x .pieces) r) in
@@ -345,7 +345,7 @@ module _ (c : Carrying) where
       let performs = c .by-code p rule (cut .known) (cut .code) in
       let a = addressOf p .0 in
       let l = lengthOf (rule .length) p in
-      let passes = rw (c .commands w p) at (cut .passes) in
+      let passes = rw (c .commands w p (cut .ready)) at (cut .passes) in
       let says = passed-says w p rule (cut .known) (opens-blocks rule performs) passes in
       let sum = cut .sum in
       let whole = carried-through w (cut .ready) rule performs p a l says pieces (cut .through) in
@@ -395,4 +395,4 @@ pub disc-gives : GivesAll fromDisc
 disc-gives at n buffer disc h = length-take-le n (drop at disc) (simp length-drop (omega arith))
 
 pub our-cuttings : Cuttings drive
-our-cuttings = cuttings our-feeds our-pulls disc-gives (λ w q. refl)
+our-cuttings = cuttings our-feeds our-pulls disc-gives (λ w q r. refl)

@@ -41,7 +41,7 @@ pub data Lending (d : Device) (way : List ℕ → Call) (w : World) : Type 0 whe
 module _ (w : World) (r : Ready w) where
   -- a feed serves a write
   feed-finds : {d : Device} {puts : Puts} → Feeds d puts → Feeding (w .state .transfer) → Lending d Feed w
-  feed-finds f (idles _ same) = idle (λ x. f .unfed w x (fed w x r ∙ same w x))
+  feed-finds f (idles _ same) = idle (λ x. f .unfed w x r (fed w x r ∙ same w x))
   feed-finds f (writes p e) =
       let o = sound-write (w .state .media) p (open-sound w r (Write p) e) in
       busy (feed-served f) (p .at .0) (p .left) (o .on .some) e
@@ -49,7 +49,7 @@ module _ (w : World) (r : Ready w) where
   -- a pull serves a read and an answer
   pull-finds : {d : Device} {reads answers : Gives} → Pulls d reads answers → Pulling (w .state .transfer) → Lending d Pull w
   unfolding openSoundB
-  pull-finds f (unpulled _ same) = idle (λ x. f .unpulled w x (pulled w x r ∙ same w x))
+  pull-finds f (unpulled _ same) = idle (λ x. f .unpulled w x r (pulled w x r ∙ same w x))
   pull-finds f (answers p e) =
       let i = in-buffer (w .state .media) p (open-sound w r (Answer p) e) in
       busy (answer-served f) (p .at) (p .left) (i .some) e
@@ -131,9 +131,12 @@ module _ {d : Device} {way : List ℕ → Call} (y : Way d way) where
   lent-whole w (x ∷ xs) r = piece-joins w x xs (λ v. lent-whole v xs) r
 
   -- which is how they are lent whole
-  pub cut-anywhere : CutAnywhere d way
+  whole-once : (w : World) (x : List ℕ) → Ready w → lendAll d way w (x ∷ []) ≡ lendOne d way w x
   unfolding flatten
-  cut-anywhere w pieces r = lent-whole w pieces r ∙ sym (rw (append-nil (flatten pieces)) at (lent-whole w (flatten pieces ∷ []) r))
+  whole-once w x r = rw (append-nil x) at (lent-whole w (x ∷ []) r)
+
+  pub cut-anywhere : CutAnywhere d way
+  cut-anywhere w pieces r = lent-whole w _ r ∙ sym (whole-once w _ r)
 
 -- ---- a feed and a pull
 

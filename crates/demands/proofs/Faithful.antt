@@ -1,20 +1,21 @@
--- Demand 2 of our drive. Assumes nothing.
-use Rattle.ground.specs.Kit.{_≡_, refl, ap, _∙_, true, List, [], _∷_, ℕ, ne-eqb}
+-- Demand 2 of our drive, and of any device that is heard as ours. Assumes nothing.
+use Rattle.ground.specs.Kit.{_≡_, refl, ap, _∙_, true, List, [], _∷_, ne-eqb}
 use Rattle.state.specs.declared.{Media.Media}
 use Rattle.sound.specs.Soundness.{soundB}
 use Rattle.checks.specs.Verdicts.{verdict}
-use Rattle.house.specs.World.{World, Heard, Reply}
+use Rattle.house.specs.World.{World, inState, Reply}
 use Rattle.house.proofs.Houses.{admits, command-admits}
 use Rattle.drive.specs.Calls.{Call, Insert, Eject, Command, Feed, Pull, houseOf, callOf}
 use Rattle.drive.proofs.Calling.{acceptedOf, by-call}
 use Rattle.drive.proofs.Staying.{power-on-sound, keeps}
-use Rattle.demands.specs.Device.{drive}
-use Rattle.demands.specs.Answered.{judgedOf}
-use Rattle.demands.specs.Ledger.{Ledger, noted}
-use Rattle.demands.specs.Faithful.{run, Accounted, Faithful}
+use Rattle.demands.specs.Device.{Device, drive}
+use Rattle.demands.specs.Ledger.{Ledger, blank, ledgerOf, noted}
+use Rattle.demands.specs.Faithful.{run, Accounted, Judges, Accounts, Faithful}
 use Rattle.demands.proofs.Answered.{judged-by}
 use Rattle.demands.proofs.Announced.{announced}
 use Rattle.demands.proofs.Agreeing.{Agrees, shut, agrees-inserted, agrees-ejected}
+use Rattle.demands.proofs.AsOurs.{AsOurs, ours}
+use Rattle.demands.proofs.Meeting.{agrees-met}
 use Rattle.demands.proofs.Opening.{agrees-commanded}
 use Rattle.demands.proofs.Foretelling.{by-verdict, hears-foretold}
 use Rattle.demands.proofs.Moving.{agrees-fed, agrees-pulled}
@@ -34,29 +35,36 @@ module _ (w : World) (sound : soundB (w .state) ≡ true) (l : Ledger) (a : Agre
   agrees-next c =
       by-call w c (λ (x : Reply). Agrees (x .world) (noted l c (x .heard))) (λ some. rw (ne-eqb (houseOf w c) 0 some) a) (agrees-accepted c)
 
-  accounted-here : Accounted drive (record { world = w; ledger = l })
-  accounted-here =
-      record { hears = hears-foretold w sound l a; holds = λ some. a .disc (λ z. some (ap (λ (m : Media). m .disc) (a .media) ∙ z)) .1 }
+module _ {d : Device} (o : AsOurs d) where
+  accounted : (cs : List Call) (w : World) (l : Ledger) → soundB (w .state) ≡ true → Agrees w l → Accounted d (run d (record { world = w; ledger = l }) cs)
+  accounted [] w l sound a =
+      record {
+        hears = λ c. o .heard w c ∙ hears-foretold w sound l a c;
+        holds = λ some. a .disc (λ z. some (ap (λ (m : Media). m .disc) (a .media) ∙ z)) .1;
+      }
+  accounted (c ∷ cs) w l sound a =
+      let next = agrees-next w sound l a c in
+      accounted cs (d .call w c .world) (noted l c (d .call w c .heard)) (rw (o .state w c sound) (keeps w c sound))
+      (o .agrees w c sound _ (rw (o .heard w c) next))
 
-accounted : (cs : List Call) (w : World) (l : Ledger) → soundB (w .state) ≡ true → Agrees w l
-    → Accounted drive (run drive (record { world = w; ledger = l }) cs)
-accounted [] w l sound a = accounted-here w sound l a
-accounted (c ∷ cs) w l sound a =
-    accounted cs (callOf w c .world) (noted l c (callOf w c .heard)) (keeps w c sound) (agrees-next w sound l a c)
+  accounts : Accounts d
+  accounts =
+      record {
+        ready = λ w cs r. accounted cs w (ledgerOf w) (r .sound) (agrees-met w r);
+        powered = λ w cs.
+            accounted cs (inState w (d .start)) blank (rw (o .start) power-on-sound)
+            (rw (o .start) (record { media = refl; host = refl; disc = λ some. absurd (some refl); opened = shut _ _ _ _ }));
+      }
 
--- ---- the verdict
+  -- ---- the verdict
 
-judged : (w : World) (p : List ℕ)
-    → let h = callOf w (Command p) .heard in
-    h .house ≡ 0 → record { passed = h .passed; sense = h .sense } ≡ judgedOf (verdict (w .state .media) (w .state .host) p)
-judged w p none =
-    rw (judged-by w p none)
-    (ap (λ (h : Heard). record { passed = h .passed; sense = h .sense }) (by-verdict w p (verdict (w .state .media) (w .state .host) p)))
+  judged : Judges d
+  judged w p none =
+      let said = rw (o .heard w (Command p)) at none in
+      rw (o .heard w (Command p), judged-by w p said, by-verdict w p (verdict (w .state .media) (w .state .host) p))
+
+  pub faithful-as : Faithful d
+  faithful-as = record { judged = judged; accounted = accounts; announced = announced o }
 
 pub faithful : Faithful drive
-faithful =
-    record {
-      judged = judged;
-      accounted = λ w cs. accounted cs _ _ power-on-sound (record { media = refl; host = refl; disc = λ some. absurd (some refl); opened = shut _ _ _ _ });
-      announced = announced;
-    }
+faithful = faithful-as ours

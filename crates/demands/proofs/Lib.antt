@@ -1,8 +1,10 @@
 pub mod Answered
-pub mod Announced
 pub mod BlockLists
 pub mod Gathering
 pub mod Agreeing
+pub mod AsOurs
+pub mod Announced
+pub mod Meeting
 pub mod Opening
 pub mod Moving
 pub mod Foretelling
@@ -12,7 +14,11 @@ pub mod Cutting
 pub mod Alike
 pub mod Carrying
 pub mod Alone
+pub mod AnyWorld
+pub mod Sufficing
 pub mod Together
-pub mod Starting
+pub mod OnDisc4
 pub mod Wrong
 pub mod Obeyed
+pub mod CutApart
+pub mod Independent

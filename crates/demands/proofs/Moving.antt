@@ -8,11 +8,11 @@ use Rattle.house.specs.World.{World, Reply, heard}
 use Rattle.house.specs.Theorems.{Ready}
 use Rattle.moves.specs.Replies.{idle, answerAfter, discAfter}
 use Rattle.moves.proofs.Spans.{may-answer, may-read, may-write}
-use Rattle.feeds.specs.Feeding.{Writing, writing, feedBytes, written, writeFed}
+use Rattle.feeds.specs.Feeding.{Writing, writing, feedBytes, written, takes, writeFed}
 use Rattle.feeds.proofs.Feeding.{feed-at}
-use Rattle.feeds.proofs.ByTransfer.{takes, by-feeding}
-use Rattle.pulls.specs.Pulling.{answerPulled, readPulled}
-use Rattle.pulls.proofs.ByTransfer.{gives, by-pulling}
+use Rattle.feeds.proofs.ByTransfer.{by-feeding}
+use Rattle.pulls.specs.Pulling.{answerPulled, readPulled, gives}
+use Rattle.pulls.proofs.ByTransfer.{by-pulling}
 use Rattle.drive.specs.Calls.{Call, Feed, Pull}
 use Rattle.drive.proofs.Calling.{acceptedOf}
 use Rattle.demands.specs.Ledger.{Store, Ledger, ledger, gather, noted}
@@ -36,8 +36,8 @@ module _ (w : World) (l : Ledger) (a : Agrees w l) (ready : Ready w) where
   b = blockBytes (w .state .media .disc)
 
   -- what a call leaves agrees with what is noted of it, and what is heard of it is foretold
-  abbrev pub Accounts : Call → Reply → Type 0
-  Accounts c r = Agrees (r .world) (noted l c (r .heard)) × (r .heard ≡ foretells l c)
+  abbrev pub AccountsFor : Call → Reply → Type 0
+  AccountsFor c r = Agrees (r .world) (noted l c (r .heard)) × (r .heard ≡ foretells l c)
 
   by-moving : (t : Transfer) (v : Writing) (stored : Store) (left : ℕ) (coming : List ℕ)
       → ((w .state .media .disc ≡ 0 → ⊥) → Even b (stored .blocks) × (v .disc ≡ flatten (stored .blocks)))
@@ -49,16 +49,11 @@ module _ (w : World) (l : Ledger) (a : Agrees w l) (ready : Ready w) where
 
   -- ---- a feed
 
-  pub agrees-fed : (piece : List ℕ) → Accounts (Feed piece) (acceptedOf w (Feed piece))
+  pub agrees-fed : (piece : List ℕ) → AccountsFor (Feed piece) (acceptedOf w (Feed piece))
   unfolding noted movedOf
-  agrees-fed piece = by-feeding w piece (Accounts (Feed piece)) idles writes
+  agrees-fed piece = by-feeding w piece (AccountsFor (Feed piece)) idles writes
     where
-      idles : takes (w .state .transfer) ≡ 0 → Accounts (Feed piece) (idle w piece)
-      idles z =
-          let none : 0 ≡ min (length piece) (l .left) = omega (arith, a .opened .taking, z) in
-          (rw (sub-zero (l .left)) a, ap (λ (n : ℕ). heard 0 false (w .state .host .sense) n piece) none ∙ rw (a .host))
-
-      writes : (p : DiscAt) → w .state .transfer ≡ Write p → Accounts (Feed piece) (writeFed p w piece)
+      writes : (p : DiscAt) → w .state .transfer ≡ Write p → AccountsFor (Feed piece) (writeFed p w piece)
       writes p e =
           let o = rw e at (a .opened) in
           let n = min (length piece) (p .left) in
@@ -80,6 +75,11 @@ module _ (w : World) (l : Ledger) (a : Agrees w l) (ready : Ready w) where
             rw (o .taking, a .host),
           )
 
+      idles : takes (w .state .transfer) ≡ 0 → AccountsFor (Feed piece) (idle w piece)
+      idles z =
+          let none : 0 ≡ min (length piece) (l .left) = omega (arith, a .opened .taking, z) in
+          (rw (sub-zero (l .left)) a, ap (λ (n : ℕ). heard 0 false (w .state .host .sense) n piece) none ∙ rw (a .host))
+
   -- ---- a pull
 
   -- from a source, the block buffer or the disc: what is left of it, and what the caller's buffer then has
@@ -100,17 +100,17 @@ module _ (w : World) (l : Ledger) (a : Agrees w l) (ready : Ready w) where
         hears = rw (whole, a .host, e, take-take n left (drop at source) (omega arith));
       }
 
-  pub agrees-pulled : (out : List ℕ) → Accounts (Pull out) (acceptedOf w (Pull out))
+  pub agrees-pulled : (out : List ℕ) → AccountsFor (Pull out) (acceptedOf w (Pull out))
   unfolding noted movedOf
-  agrees-pulled out = by-pulling w out (Accounts (Pull out)) idles answers reads
+  agrees-pulled out = by-pulling w out (AccountsFor (Pull out)) idles answers reads
     where
-      idles : gives (w .buffer) (w .disc) (w .state .transfer) ≡ [] → Accounts (Pull out) (idle w out)
+      idles : gives (w .buffer) (w .disc) (w .state .transfer) ≡ [] → AccountsFor (Pull out) (idle w out)
       idles z =
           let empty : l .coming ≡ [] = a .opened .giving ∙ z in
           let none : min (length out) 0 ≡ 0 = omega arith in
           (a, rw (empty, none, a .host))
 
-      answers : (p : AnswerAt) → w .state .transfer ≡ Answer p → Accounts (Pull out) (answerPulled p w out)
+      answers : (p : AnswerAt) → w .state .transfer ≡ Answer p → AccountsFor (Pull out) (answerPulled p w out)
       answers p e =
           let o = rw e at (a .opened) in
           let n = min (length out) (p .left) in
@@ -120,7 +120,7 @@ module _ (w : World) (l : Ledger) (a : Agrees w l) (ready : Ready w) where
             f .hears,
           )
 
-      reads : (p : DiscAt) → w .state .transfer ≡ Read p → Accounts (Pull out) (readPulled p w out)
+      reads : (p : DiscAt) → w .state .transfer ≡ Read p → AccountsFor (Pull out) (readPulled p w out)
       reads p e =
           let o = rw e at (a .opened) in
           let n = min (length out) (p .left) in

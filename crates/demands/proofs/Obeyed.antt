@@ -20,24 +20,24 @@ use Rattle.demands.proofs.Carrying.{All, Same, reads-cut-by, cuttings, 
 -- ---- a device that feeds or pulls as ours does
 
 module _ (d : Device) where
-  feeds-as : ((w : World) (x : List ℕ) → d .call w (Feed x) ≡ callOf w (Feed x)) → Feeds d ourPuts
+  pub feeds-as : ((w : World) (x : List ℕ) → Ready w → d .call w (Feed x) ≡ callOf w (Feed x)) → Feeds d ourPuts
   feeds-as same =
       record {
         put = our-feeds .put;
-        ready = λ w x r. rw (same w x) (our-feeds .ready w x r);
-        unfed = λ w x e. rw (same w x) (our-feeds .unfed w x e);
-        fed = λ w p x e f. rw (same w x) (our-feeds .fed w p x e f);
+        ready = λ w x r. rw (same w x r) (our-feeds .ready w x r);
+        unfed = λ w x r e. rw (same w x r) (our-feeds .unfed w x r e);
+        fed = λ w p x r e f. rw (same w x r) (our-feeds .fed w p x r e f);
       }
 
-  pulls-as : ((w : World) (x : List ℕ) → d .call w (Pull x) ≡ callOf w (Pull x)) → Pulls d fromDisc fromBuffer
+  pub pulls-as : ((w : World) (x : List ℕ) → Ready w → d .call w (Pull x) ≡ callOf w (Pull x)) → Pulls d fromDisc fromBuffer
   pulls-as same =
       record {
         read-given = our-pulls .read-given;
         answer-given = our-pulls .answer-given;
-        ready = λ w x r. rw (same w x) (our-pulls .ready w x r);
-        unpulled = λ w x e. rw (same w x) (our-pulls .unpulled w x e);
-        from-read = λ w p x e. rw (same w x) (our-pulls .from-read w p x e);
-        from-answer = λ w p x e. rw (same w x) (our-pulls .from-answer w p x e);
+        ready = λ w x r. rw (same w x r) (our-pulls .ready w x r);
+        unpulled = λ w x r e. rw (same w x r) (our-pulls .unpulled w x r e);
+        from-read = λ w p x r e. rw (same w x r) (our-pulls .from-read w p x r e);
+        from-answer = λ w p x r e. rw (same w x r) (our-pulls .from-answer w p x r e);
       }
 
 -- ---- the device that gives zeros
@@ -56,9 +56,9 @@ zeroed =
       read-given = zeros-given;
       answer-given = zeros-given;
       ready = our-pulls .ready;
-      unpulled = λ w x e. rw e;
-      from-read = λ w p x e. rw e;
-      from-answer = λ w p x e. rw e;
+      unpulled = λ w x r e. rw e;
+      from-read = λ w p x r e. rw e;
+      from-answer = λ w p x r e. rw e;
     }
 
 -- ---- the devices that put the bytes elsewhere
@@ -90,8 +90,8 @@ discarded =
     record {
       put = record { none = λ number at buffer disc. refl; more = λ number at x y buffer disc. refl };
       ready = λ w x r. rw (accepted w x r) (still-ready w x r (w .disc) refl);
-      unfed = λ w x e. rw e;
-      fed = λ w p x e f. rw e;
+      unfed = λ w x r e. rw e;
+      fed = λ w p x r e f. rw e;
     }
 
 -- what holds of bytes set on the disc and of the disc as it was
@@ -107,14 +107,14 @@ stored-none t disc x = by-stored (λ l. l ≡ disc) t disc x 0 (λ p. refl) refl
 stored-length : (t : Transfer) (disc x : List ℕ) (n : ℕ) → length (storedAt t disc x n) ≡ length disc
 stored-length t disc x n = by-stored (λ l. length l ≡ length disc) t disc x n (λ p. length-sets disc (p .at .0) (take n x)) refl
 
-stored : Feeds versionThree stores
+pub stored : Feeds versionThree stores
 unfolding callOf
 stored =
     record {
       put = record { none = λ number at buffer disc. refl; more = λ number at x y buffer disc. rw (sets-more x y disc at) };
       ready = λ w x r. rw (accepted w x r) (still-ready w x r _ (stored-length (w .state .transfer) (w .disc) x (callOf w (Feed x) .heard .count)));
-      unfed = λ w x e. rw (e, stored-none (w .state .transfer) (w .disc) x);
-      fed = λ w p x e f. rw (e, f);
+      unfed = λ w x r e. rw (e, stored-none (w .state .transfer) (w .disc) x);
+      fed = λ w p x r e f. rw (e, f);
     }
 
 -- ---- the device that serves only the first pull
@@ -146,14 +146,14 @@ one-each (x ∷ xs) e = (e .0, one-each xs (e .1))
 pub obeyed : Obeyed
 obeyed =
     record {
-      hands-out-zeros = cuttings (feeds-as handsOutZeros (λ w x. refl)) zeroed (λ at n buffer disc h. length-replicate n 0) (λ w q. refl);
-      discards-feeds = cuttings discarded (pulls-as discardsFeeds (λ w x. refl)) disc-gives (λ w q. refl);
-      version-one = cuttings (feeds-as versionOne (λ w x. refl)) (pulls-as versionOne (λ w x. refl)) disc-gives (λ w q. refl);
-      version-three = cuttings stored (pulls-as versionThree (λ w x. refl)) disc-gives (λ w q. refl);
-      first-block-feeds = cut-anywhere (feed-way (feeds-as firstBlockOnly (λ w x. refl)));
-      first-block-pulls = cut-anywhere (pull-way (pulls-as firstBlockOnly (λ w x. refl)));
+      hands-out-zeros = cuttings (feeds-as handsOutZeros (λ w x r. refl)) zeroed (λ at n buffer disc h. length-replicate n 0) (λ w q r. refl);
+      discards-feeds = cuttings discarded (pulls-as discardsFeeds (λ w x r. refl)) disc-gives (λ w q r. refl);
+      version-one = cuttings (feeds-as versionOne (λ w x r. refl)) (pulls-as versionOne (λ w x r. refl)) disc-gives (λ w q r. refl);
+      version-three = cuttings stored (pulls-as versionThree (λ w x r. refl)) disc-gives (λ w q r. refl);
+      first-block-feeds = cut-anywhere (feed-way (feeds-as firstBlockOnly (λ w x r. refl)));
+      first-block-pulls = cut-anywhere (pull-way (pulls-as firstBlockOnly (λ w x r. refl)));
       first-pull-reads = λ w p rule out parts c each.
-          reads-cut-by our-pulls disc-gives (λ w q. refl) firstPullOnly (λ pieces. length pieces ≡ 1) one-pull w p rule (out ∷ []) parts
+          reads-cut-by our-pulls disc-gives (λ w q r. refl) firstPullOnly (λ pieces. length pieces ≡ 1) one-pull w p rule (out ∷ []) parts
           (record {
             ready = c .ready;
             code = c .code;

@@ -161,9 +161,9 @@ pub record Put (puts : Puts) : Type 0 where
 pub record Feeds (d : Device) (puts : Puts) : Type 0 where
   pub put : Put puts
   pub ready : (w : World) (x : List ℕ) → Ready w → Ready (d .call w (Feed x) .world)
-  pub unfed : (w : World) (x : List ℕ) → feedOf w x ≡ idle w x → lendOne d Feed w x ≡ lent 0 x w
+  pub unfed : (w : World) (x : List ℕ) → Ready w → feedOf w x ≡ idle w x → lendOne d Feed w x ≡ lent 0 x w
   pub fed :
-      (w : World) (p : DiscAt) (x : List ℕ) → feedOf w x ≡ writeFed p w x → w .state .transfer ≡ Write p
+      (w : World) (p : DiscAt) (x : List ℕ) → Ready w → feedOf w x ≡ writeFed p w x → w .state .transfer ≡ Write p
       → lendOne d Feed w x ≡ moving (feeding puts) w (p .at .0) (p .left) x
 
 -- serves it
@@ -178,12 +178,12 @@ module _ {d : Device} {puts : Puts} (f : Feeds d puts) where
         goes = only-moves transfer;
         none = λ number at x buffer disc. rw (g .none number at buffer disc);
         more = λ number at m x y buffer disc. rw (take-append-add x y m, take-length x, g .more number at x (take m y) buffer disc);
-        closed = λ w x r e. f .unfed w x (feeds w x r ∙ rw e);
+        closed = λ w x r e. f .unfed w x r (feeds w x r ∙ rw e);
         opened = opened;
       }
 
   pub feed-served : Serves d Feed (feeding puts)
-  feed-served = put-served (feeding puts .transfer) puts (f .put) (λ at left. refl) (λ w at left x r e. f .fed w _ x (sym (feeds-write w x r _ e)) e)
+  feed-served = put-served (feeding puts .transfer) puts (f .put) (λ at left. refl) (λ w at left x r e. f .fed w _ x r (sym (feeds-write w x r _ e)) e)
 
 -- ours: to the block buffer and on to the disc
 abbrev pub ourPuts : Puts
@@ -207,8 +207,8 @@ our-feeds =
     record {
       put = our-put;
       ready = λ w x. stays w (Feed x);
-      unfed = λ w x e. rw e;
-      fed = λ w p x e f. rw e;
+      unfed = λ w x r e. rw e;
+      fed = λ w p x r e f. rw e;
     }
 
 -- ---- a pull of an open read or answer
@@ -237,12 +237,12 @@ pub record Pulls (d : Device) (reads answers : Gives) : Type 0 where
   pub read-given : Given reads
   pub answer-given : Given answers
   pub ready : (w : World) (x : List ℕ) → Ready w → Ready (d .call w (Pull x) .world)
-  pub unpulled : (w : World) (x : List ℕ) → pullOf w x ≡ idle w x → lendOne d Pull w x ≡ lent 0 x w
+  pub unpulled : (w : World) (x : List ℕ) → Ready w → pullOf w x ≡ idle w x → lendOne d Pull w x ≡ lent 0 x w
   pub from-read :
-      (w : World) (p : DiscAt) (x : List ℕ) → pullOf w x ≡ readPulled p w x
+      (w : World) (p : DiscAt) (x : List ℕ) → Ready w → pullOf w x ≡ readPulled p w x
       → lendOne d Pull w x ≡ moving (reading reads) w (p .at .0) (p .left) x
   pub from-answer :
-      (w : World) (p : AnswerAt) (x : List ℕ) → pullOf w x ≡ answerPulled p w x
+      (w : World) (p : AnswerAt) (x : List ℕ) → Ready w → pullOf w x ≡ answerPulled p w x
       → lendOne d Pull w x ≡ moving (answering answers) w (p .at) (p .left) x
 
 -- a buffer filled whole, and then m bytes of another
@@ -266,15 +266,15 @@ module _ {d : Device} {reads answers : Gives} (p : Pulls d reads answers) where
         goes = only-moves transfer;
         none = λ number at x buffer disc. rw (g .none at buffer disc);
         more = λ number at m x y buffer disc. rw (fills-more g at m x y buffer disc);
-        closed = λ w x r e. p .unpulled w x (pulls w x r ∙ rw e);
+        closed = λ w x r e. p .unpulled w x r (pulls w x r ∙ rw e);
         opened = opened;
       }
 
   pub read-served : Serves d Pull (reading reads)
-  read-served = pull-served (reading reads .transfer) reads (p .read-given) (λ at left. refl) (λ w at left x r e. p .from-read w _ x (sym (pulls-read w x r _ e)))
+  read-served = pull-served (reading reads .transfer) reads (p .read-given) (λ at left. refl) (λ w at left x r e. p .from-read w _ x r (sym (pulls-read w x r _ e)))
 
   pub answer-served : Serves d Pull (answering answers)
-  answer-served = pull-served (answering answers .transfer) answers (p .answer-given) (λ at left. refl) (λ w at left x r e. p .from-answer w _ x (sym (pulls-answer w x r _ e)))
+  answer-served = pull-served (answering answers .transfer) answers (p .answer-given) (λ at left. refl) (λ w at left x r e. p .from-answer w _ x r (sym (pulls-answer w x r _ e)))
 
 -- ours: from the disc and from the block buffer
 abbrev pub fromDisc : Gives
@@ -293,7 +293,7 @@ our-pulls =
       read-given = record { none = λ at buffer disc. refl; more = λ at m n buffer disc. taken-more disc at m n };
       answer-given = record { none = λ at buffer disc. refl; more = λ at m n buffer disc. taken-more buffer at m n };
       ready = λ w x. stays w (Pull x);
-      unpulled = λ w x e. rw e;
-      from-read = λ w p x e. rw e;
-      from-answer = λ w p x e. rw e;
+      unpulled = λ w x r e. rw e;
+      from-read = λ w p x r e. rw e;
+      from-answer = λ w p x r e. rw e;
     }

@@ -1,17 +1,25 @@
 -- Each wrong device breaks demand 2. Assumes nothing.
-use Rattle.ground.specs.Kit.{_≡_, refl, sym, ap, _∙_, true, false, true≢false, false≢true, List, [], _∷_, _++_, flatten, ℕ, _<_, _+_, arith, eq-eqb, ne-eqb, length, getD, set, length-replicate, length-append, take-all, append-snoc}
+use Rattle.ground.specs.Kit.{_≡_, refl, sym, ap, _∙_, true, false, true≢false, false≢true, List, [], _∷_, _++_, flatten, ℕ, _<_, _+_, arith, eq-eqb, ne-eqb, length, getD, set, replicate, length-replicate, length-append, take-all, append-snoc}
 use Rattle.disc.specs.declared.{BlockAddress.BlockAddress}
 use Rattle.state.specs.declared.{Sense.Sense}
-use Rattle.disc.specs.Formats.{bufferBytes, formatOf, blockBytes}
+use Rattle.disc.specs.Formats.{bufferBytes, formatOf, blockBytes, runBytes, discBytes}
 use Rattle.ground.specs.Bytes.{zeros}
-use Rattle.house.specs.World.{World, inBuffer, inDisc, someWorld, Heard, Reply}
-use Rattle.drive.specs.Calls.{Call, Insert, Command, Feed, Pull}
+use Rattle.state.specs.declared.Transfer.the-variants.{Closed, Answer}
+use Rattle.state.specs.Senses.{noSense, changeTold, unknownCode, namedB}
+use Rattle.state.specs.States.{hostOf, stateOf, noMedia, movedOf}
+use Rattle.sound.specs.Soundness.{openSoundB, soundB}
+use Rattle.packet.specs.Fields.{addressOf, lengthOf}
+use Rattle.packet.specs.Rules.{rules, ruleOf}
+use Rattle.house.specs.World.{World, inState, inBuffer, someWorld, Heard}
+use Rattle.house.specs.Refusals.{moveTests}
+use Rattle.house.specs.Theorems.{Ready}
+use Rattle.pulls.specs.Pulling.{pullOf}
+use Rattle.drive.specs.Calls.{Call, Insert, Command, Feed, Pull, callOf}
 use Rattle.demands.specs.Device.{Device, after}
 use Rattle.demands.specs.Answered.{Judged}
 use Rattle.demands.specs.Ledger.{store, blocksOn, blocksOf, gather, noted}
-use Rattle.demands.specs.Faithful.{someAnswersB, Faithful}
+use Rattle.demands.specs.Faithful.{someAnswersB, Judges, Accounts, Announces}
 use Rattle.demands.specs.Wrong.{
-  altered,
   failsEverything,
   passesEverything,
   handsOutZeros,
@@ -20,13 +28,16 @@ use Rattle.demands.specs.Wrong.{
   firstPullOnly,
   makesUpCounts,
   neverReady,
+  unknownCodeClears,
+  closesAtRefusal,
+  blankFrom40,
   versionOne,
   versionTwo,
   versionThree,
   Excluded,
 }
 use Rattle.demands.proofs.Foretelling.{foretold-accepted}
-use Rattle.demands.proofs.Starting.{takes, gives, test, inquiry, empty, inserted, power-told, Starts, Ours, ours, from-reading, from-writing}
+use Rattle.demands.proofs.OnDisc4.{fed-count, pulled-bytes, test, inquiry, unknown, write, reading, writing, without, with4, open4, Ours, ours, ready-closed, ready-reading, ready-writing}
 
 -- a list that starts with 0 is none that starts with 7
 starts-otherwise : {l k : List ℕ} → l ≡ k → getD l 0 0 ≡ 0 → getD k 0 0 ≡ 7 → ⊥
@@ -42,6 +53,17 @@ gather-whole size blocks block got (x ∷ (y ∷ ys)) some e =
     rw (ne-eqb (length (got ++ (x ∷ []))) size (λ z. omega arith), ← append-snoc got x (y ∷ ys))
     (gather-whole size blocks block (got ++ (x ∷ [])) (y ∷ ys) (omega arith) (omega arith))
 
+-- a block buffer of 7s, of which an open answer still gives 50, from byte 100 on
+abbrev answering : World
+answering =
+    inBuffer (inState someWorld (stateOf noMedia false (hostOf false false noSense) (Answer (record { at = 100; left = 50 })))) (replicate 1024 7)
+
+blank-from-40 : Accounts blankFrom40 → ⊥
+unfolding callOf pullOf moveTests soundB namedB openSoundB formatOf blockBytes runBytes discBytes
+blank-from-40 f =
+    let ready : Ready answering = record { sound = refl; buffer = refl; disc = refl } in
+    starts-otherwise (pulled-bytes (f .ready answering [] ready) (0 ∷ []) refl .1) refl refl
+
 -- any block buffer, and any disc 4 that starts with two 7s
 module _ (v : World) (rest : List ℕ) (b : length (v .buffer) ≡ bufferBytes) (d : length rest ≡ 32766) where
   abbrev disc : List ℕ
@@ -53,105 +75,103 @@ module _ (v : World) (rest : List ℕ) (b : length (v .buffer) ≡ bufferBytes) 
   -- ---- the verdict
 
   -- INQUIRY passes
-  fails-everything : Faithful failsEverything → ⊥
-  fails-everything f =
-      let one = (rw (our .inquires) at (f .judged (inserted v disc true) inquiry)) refl in
+  fails-everything : (says : World → List ℕ → Sense) → Judges (failsEverything says) → ⊥
+  fails-everything says f =
+      let one = (rw (our .inquires) at (f (with4 v disc true noSense Closed) inquiry)) refl in
       false≢true (ap (λ (j : Judged). j .passed) one ∙ our .inquiry-passes)
 
-  -- TEST UNIT READY tells of power-on
-  passes-everything : Faithful passesEverything → ⊥
+  -- TEST UNIT READY tells the change
+  passes-everything : Judges passesEverything → ⊥
+  unfolding namedB
   passes-everything f =
-      let one = (rw (our .starts .tells-power true) at (f .judged (inserted v disc true) test)) refl in
+      let one = (rw (our .tells noSense refl) at (f (with4 v disc true noSense Closed) test)) refl in
       true≢false (ap (λ (j : Judged). j .passed) one ∙ our .test-fails)
 
   -- ---- the announcement
 
-  -- after an insertion the second TEST UNIT READY passes, and none has answered 06 28 00
-  silent : (w : Device) (cs : List Call)
-      → let inserted = w .call (empty v disc) (Insert 4 false disc) in
+  -- after an insertion TEST UNIT READY passes, and no command has answered 06 28 00
+  silent : (w : Device) (cs : List Call) (sense : Sense)
+      → let inserted = w .call (without v disc) (Insert 4 false disc) in
       inserted .heard .house ≡ 0 → someAnswersB w (inserted .world) cs ≡ false
-      → after w (inserted .world) cs ≡ power-told v disc false
-      → w .call (power-told v disc false) (Command test) .heard .passed ≡ true → Faithful w → ⊥
-  silent w cs house none e passes f = false≢true (f .announced (empty v disc) 4 false disc cs test house none (rw e passes))
+      → after w (inserted .world) cs ≡ with4 v disc false sense Closed
+      → w .call (with4 v disc false sense Closed) (Command test) .heard .passed ≡ true → Announces w → ⊥
+  silent w cs sense house none e passes f = false≢true (f (without v disc) 4 false disc cs test house none (rw e passes))
 
-  -- the first told of power-on, and no change is pending
-  version-one : Faithful versionOne → ⊥
-  version-one =
-      let inserts = our .starts .inserts in
-      let tells = our .starts .tells-power false in
-      silent versionOne (Command test ∷ []) (rw inserts) (rw (inserts, tells)) (rw (inserts, after, tells)) (rw (our .tests))
+  version-one : Announces versionOne → ⊥
+  unfolding namedB
+  version-one = silent versionOne [] noSense (rw (our .inserts)) refl (rw (our .inserts)) (rw (our .tests noSense refl))
 
-  -- nor is one after INQUIRY
-  version-two : Faithful versionTwo → ⊥
+  version-two : Announces versionTwo → ⊥
+  unfolding namedB
   version-two =
-      let inserts = our .starts .inserts in
-      let tells = our .starts .tells-power false in
-      silent versionTwo (Command inquiry ∷ Command test ∷ []) (rw inserts) (rw (inserts, our .inquires, tells))
-      (rw (inserts, after, our .inquires, tells))
-      (rw (our .tests))
+      silent versionTwo (Command inquiry ∷ []) noSense (rw (our .inserts)) (rw (our .inserts, our .inquires))
+      (rw (our .inserts, after, our .inquires))
+      (rw (our .tests noSense refl))
 
-  -- ---- the account
+  unknown-code-clears : Announces unknownCodeClears → ⊥
+  unfolding namedB
+  unknown-code-clears =
+      silent unknownCodeClears (Command unknown ∷ []) unknownCode (rw (our .inserts)) (rw (our .inserts, our .unknown-fails))
+      (rw (our .inserts, after, our .unknown-fails))
+      (rw (our .tests unknownCode refl))
+
+  -- ---- the account, from a ready world
 
   -- a pull counts a byte with nothing coming
-  makes-up-counts : Faithful makesUpCounts → ⊥
+  makes-up-counts : Accounts makesUpCounts → ⊥
   makes-up-counts f =
-      let gave = (rw (our .pulls-empty) at (gives (f .accounted (inDisc v []) []) (0 ∷ []))) refl in
+      let gave = (rw (our .pulls-none (0 ∷ [])) at (pulled-bytes (f .ready (open4 v disc Closed) [] (ready-closed v disc b (rw d) false)) (0 ∷ []))) refl in
       omega (arith, gave .0)
 
-  -- power-on is told again, where the change is to be told
-  never-ready : Faithful neverReady → ⊥
-  unfolding noted formatOf blockBytes
+  -- the change is told again, where TEST UNIT READY is to pass
+  never-ready : Accounts neverReady → ⊥
+  unfolding noted namedB
   never-ready f =
-      let a =
-      rw (our .starts .inserts, our .starts .tells-power true) at (f .accounted (inDisc v []) (Insert 4 false disc ∷ Command test ∷ [])) in
-      let told = foretold-accepted _ _ (Command test) _ (rw (our .tells-again) at (a .hears (Command test))) refl in
-      let code : _≡_ {A = ℕ} 0x29 0x28 = ap (λ (h : Heard). h .sense .1) told ∙ ap (λ (s : Sense). s .1) (our .change-next) in
-      omega arith
-
-  -- a device whose feeds or pulls are altered starts as ours
-  starts : (feeds pulls : World → List ℕ → Reply → Reply) → Starts v disc (altered (λ w a. a) (λ w p a. a) feeds pulls)
-  starts feeds pulls =
-      record { inserts = our .starts .inserts; tells-power = our .starts .tells-power; tells-change = our .starts .tells-change }
+      let a = rw (our .tells noSense refl) at (f .ready (with4 v disc true noSense Closed) (Command test ∷ []) (ready-closed v disc b (rw d) true)) in
+      let told = foretold-accepted _ _ (Command test) _ (rw (our .tells changeTold refl) at (a .hears (Command test))) refl in
+      false≢true (ap (λ (h : Heard). h .passed) told ∙ our .test-passes)
 
   -- a 7 is read
-  hands-out-zeros : Faithful handsOutZeros → ⊥
-  unfolding flatten
+  hands-out-zeros : Accounts handsOutZeros → ⊥
   hands-out-zeros f =
-      let a = from-reading v disc (handsOutZeros .call) (starts _ _) f [] (our .reads) in
-      starts-otherwise ((rw (our .pulls) at (gives a (0 ∷ []))) refl .1) refl refl
+      let a = f .ready (open4 v disc (reading 0 512)) [] (ready-reading v disc b (rw d)) in
+      starts-otherwise ((rw (our .pulls (0 ∷ [])) at (pulled-bytes a (0 ∷ []))) refl .1) refl refl
 
   -- the second pull gives nothing
-  first-pull-only : Faithful firstPullOnly → ⊥
-  unfolding flatten noted
+  first-pull-only : Accounts firstPullOnly → ⊥
+  unfolding noted movedOf
   first-pull-only f =
-      let a = rw (our .pulls) at (from-reading v disc (firstPullOnly .call) (starts _ _) f (Pull (0 ∷ []) ∷ []) (our .reads)) in
-      let gave = (rw (our .pulls-none) at (gives a (0 ∷ []))) refl in
+      let a = rw (our .pulls (0 ∷ [])) at (f .ready (open4 v disc (reading 0 512)) (Pull (0 ∷ []) ∷ []) (ready-reading v disc b (rw d))) in
+      let gave = (rw (our .pulls-none (0 ∷ [])) at (pulled-bytes a (0 ∷ []))) refl in
+      omega (arith, gave .0)
+
+  -- nor does one after a refused insertion
+  closes-at-refusal : Accounts closesAtRefusal → ⊥
+  unfolding noted
+  closes-at-refusal f =
+      let a = rw (our .refuses) at (f .ready (open4 v disc (reading 0 512)) (Insert 4 false disc ∷ []) (ready-reading v disc b (rw d))) in
+      let gave = (rw (our .pulls-none (0 ∷ [])) at (pulled-bytes a (0 ∷ []))) refl in
       omega (arith, gave .0)
 
   -- of 513 bytes fed, 512 are taken
-  first-block-only : (piece : List ℕ) → length piece ≡ 513 → Faithful firstBlockOnly → ⊥
-  unfolding formatOf blockBytes
+  first-block-only : (piece : List ℕ) → length piece ≡ 513 → Accounts firstBlockOnly → ⊥
+  unfolding noted rules ruleOf addressOf lengthOf formatOf blockBytes runBytes
   first-block-only piece l f =
-      let s : Starts v disc (firstBlockOnly .call) = record {
-        inserts = our .starts .inserts;
-        tells-power = λ change. rw (our .starts .tells-power change);
-        tells-change = rw (our .starts .tells-change);
-      } in
-      let a = from-writing v disc (firstBlockOnly .call) s f 512 [] (rw (our .writes)) in
-      omega (arith, (rw (our .feeds-one piece) at (takes a piece)) refl, l)
+      let a = rw (our .writes) at (f .ready (open4 v disc Closed) (Command write ∷ []) (ready-closed v disc b (rw d) false)) in
+      omega (arith, (rw (our .feeds-one piece) at (fed-count a piece)) refl, l)
 
   -- the one byte that is fed is on the disc
-  version-three : Faithful versionThree → ⊥
+  version-three : Accounts versionThree → ⊥
   unfolding flatten noted formatOf blockBytes
   version-three f =
-      let a = from-writing v disc (versionThree .call) (starts _ _) f 1024 (Feed (0 ∷ []) ∷ []) (our .writes) in
+      let a = f .ready (open4 v disc (writing 0 1024)) (Feed (0 ∷ []) ∷ []) (ready-writing v disc b (rw d)) in
       starts-otherwise {k = flatten (blocksOf 512 64 disc)} ((rw (our .feeds (0 ∷ [])) at (a .holds)) (λ e. omega arith)) refl refl
 
   -- the block that is fed is not
-  discards-feeds : (piece : List ℕ) → length piece ≡ 511 → Faithful discardsFeeds → ⊥
+  discards-feeds : (piece : List ℕ) → length piece ≡ 511 → Accounts discardsFeeds → ⊥
   unfolding flatten noted formatOf blockBytes
   discards-feeds piece l f =
-      let a = from-writing v disc (discardsFeeds .call) (starts _ _) f 1024 (Feed (0 ∷ piece) ∷ []) (our .writes) in
+      let a = f .ready (open4 v disc (writing 0 1024)) (Feed (0 ∷ piece) ∷ []) (ready-writing v disc b (rw d)) in
       let whole = gather-whole 512 (blocksOf 512 64 disc) (record { 0 = 0 }) [] (0 ∷ piece) (omega arith) (omega arith) in
       starts-otherwise (sym ((rw (our .feeds (0 ∷ piece), l, take-all 511 piece (omega arith), whole) at (a .holds)) (λ e. omega arith))) refl refl
 
@@ -167,6 +187,9 @@ module _ (v : World) (rest : List ℕ) (b : length (v .buffer) ≡ bufferBytes) 
         first-pull-only = first-pull-only;
         makes-up-counts = makes-up-counts;
         never-ready = never-ready;
+        closes-at-refusal = closes-at-refusal;
+        blank-from-40 = blank-from-40;
+        unknown-code-clears = unknown-code-clears;
         version-one = version-one;
         version-two = version-two;
         version-three = version-three;

@@ -8,9 +8,9 @@ use Rattle.state.specs.States.{powerOn}
 use Rattle.sound.specs.Soundness.{soundB}
 use Rattle.checks.specs.declared.Verdict.the-variants.{Passes, Fails}
 use Rattle.checks.specs.Verdicts.{verdict}
-use Rattle.house.specs.World.{World, Reply, refusal}
+use Rattle.house.specs.World.{World, inBuffer, Reply, refusal}
 use Rattle.house.specs.Theorems.{Ready}
-use Rattle.drive.specs.Calls.{Call, Command, returned, houseOf}
+use Rattle.drive.specs.Calls.{Call, Insert, Eject, Command, Feed, Pull, returned, houseOf}
 use Rattle.demands.specs.Device.{Device}
 
 -- whether a command passes, and its triple
@@ -30,6 +30,14 @@ pub record Failed (w : World) (p : List ℕ) (a : Reply) : Type 0 where
   pub disc : a .world .disc ≡ w .disc
   pub buffer : a .world .buffer ≡ w .buffer
 
+-- an insertion or an ejection
+abbrev pub eventB : Call → Bool
+eventB (Insert number prot disc) = true
+eventB Eject = true
+eventB (Command p) = false
+eventB (Feed piece) = false
+eventB (Pull out) = false
+
 -- in every world: any state, block buffer and disc. `call` is a function, so there is a reply to every call; of ours it is what the promises
 -- of the entries say, and no entry has a `requires`
 pub record Answered (d : Device) : Type 0 where
@@ -37,6 +45,10 @@ pub record Answered (d : Device) : Type 0 where
   pub numbered : (w : World) (c : Call) → d .call w c .heard .house ≡ houseOf w c
   -- "A house refusal returns its number and changes nothing"
   pub refused : (w : World) (c : Call) → (houseOf w c ≡ 0 → ⊥) → d .call w c ≡ refusal (houseOf w c) w (returned c)
+  -- "(command, feed, pull)": an event is lent neither the block buffer nor the disc that is in; in two worlds of one state an accepted one is
+  -- heard alike and leaves the same state and disc, and the block buffer as it was
+  pub events : (w v : World) (c : Call) → eventB c ≡ true → houseOf w c ≡ 0 → w .state ≡ v .state
+      → d .call w c ≡ record { heard = d .call v c .heard; world = inBuffer (d .call v c .world) (w .buffer) }
   -- "a failed command sets its sense triple, .."
   pub failed : (w : World) (p : List ℕ) → d .call w (Command p) .heard .house ≡ 0 → d .call w (Command p) .heard .passed ≡ false
       → Failed w p (d .call w (Command p))

@@ -2,15 +2,16 @@
 -- While only our calls touch the disc, each block read holds the bytes last stored whole since insertion, else those it came in with.
 -- After an accepted insertion, while power stays on, only INQUIRY and REQUEST SENSE pass until some command has answered 06 28 00."
 use Rattle.ground.specs.Kit.{_≡_, Bool, true, false, cond, not, _||_, List, [], _∷_, _++_, flatten, ℕ, min, eqb, length, take, drop}
-use Rattle.state.specs.Senses.{noDisc}
+use Rattle.state.specs.Senses.{triple}
 use Rattle.packet.specs.Rules.{codeOf}
 use Rattle.checks.specs.Verdicts.{verdict}
 use Rattle.house.specs.World.{World, inState, Heard, heard}
+use Rattle.house.specs.Theorems.{Ready}
 use Rattle.drive.specs.Calls.{Call, Insert, Eject, Command, Feed, Pull, returned, houseOf}
 use Rattle.drive.specs.Theorems.{answersChangeB}
 use Rattle.demands.specs.Device.{Device, after}
 use Rattle.demands.specs.Answered.{judgedOf}
-use Rattle.demands.specs.Ledger.{Ledger, blank, fed, known, noted}
+use Rattle.demands.specs.Ledger.{Ledger, blank, ledgerOf, fed, known, noted}
 
 -- ---- "each block read holds the bytes last stored whole since insertion, else those it came in with"
 
@@ -30,6 +31,10 @@ abbrev pub run : Device → Run → List Call → Run
 run d r [] = r
 run d r (c ∷ cs) = run d (step d r c) cs
 
+-- a drive that is met as it stands: from here on the ledger sees no more of it
+abbrev pub met : World → Run
+met w = record { world = w; ledger = ledgerOf w }
+
 -- power-on, whatever is lent
 abbrev pub poweredOn : Device → World → Run
 poweredOn d w = record { world = inState w (d .start); ledger = blank }
@@ -42,7 +47,7 @@ openB l = not (eqb (l .left) 0) || not (eqb (length (l .coming)) 0)
 -- afterwards; "A pull fills the first min(buffer, left) bytes of the lent buffer, leaves its tail .. and reports that count."
 abbrev pub foretells : Ledger → Call → Heard
 foretells l (Insert number prot disc) = heard 0 false (l .host .sense) 0 []
-foretells l Eject = heard 0 false (cond (openB l) noDisc (l .host .sense)) 0 []
+foretells l Eject = heard 0 false (cond (openB l) (triple 0x02 0x3a 0x00) (l .host .sense)) 0 []
 foretells l (Command p) =
     let j = judgedOf (verdict (l .media) (l .host) p) in
     heard 0 (j .passed) (j .sense) 0 []
@@ -79,18 +84,34 @@ abbrev pub someAnswersB : Device → World → List Call → Bool
 someAnswersB d w [] = false
 someAnswersB d w (c ∷ cs) = answersB c (d .call w c .heard) || someAnswersB d (d .call w c .world) cs
 
+-- ---- the three sentences
+
+-- "Each command passes or fails .., with the triple of the first check that fails.": in every world
+abbrev pub Judges : Device → Type 0
+Judges d =
+    (w : World) (p : List ℕ)
+    → let h = d .call w (Command p) .heard in
+    h .house ≡ 0 → record { passed = h .passed; sense = h .sense } ≡ judgedOf (verdict (w .state .media) (w .state .host) p)
+
+-- "While only our calls touch the disc, each block read holds ..": after any calls
+pub record Accounts (d : Device) : Type 0 where
+  -- from every sound state with the right buffers
+  pub ready : (w : World) (cs : List Call) → Ready w → Accounted d (run d (met w) cs)
+  -- and from power-on with any block buffer and disc: while one of them is wrong, all but events is refused
+  pub powered : (w : World) (cs : List Call) → Accounted d (run d (poweredOn d w) cs)
+
+-- "After an accepted insertion, .. only INQUIRY and REQUEST SENSE pass until some command has answered 06 28 00.": in every world, after any
+-- calls, further events among them
+abbrev pub Announces : Device → Type 0
+Announces d =
+    (w : World) (number : ℕ) (prot : Bool) (disc : List ℕ) (cs : List Call) (p : List ℕ)
+    → let inserted = d .call w (Insert number prot disc) in
+    inserted .heard .house ≡ 0
+    → someAnswersB d (inserted .world) cs ≡ false
+    → d .call (after d (inserted .world) cs) (Command p) .heard .passed ≡ true
+    → (eqb (codeOf p) 0x03 || eqb (codeOf p) 0x12) ≡ true
+
 pub record Faithful (d : Device) : Type 0 where
-  -- "Each command passes or fails .., with the triple of the first check that fails."
-  pub judged : (w : World) (p : List ℕ)
-      → let h = d .call w (Command p) .heard in
-      h .house ≡ 0 → record { passed = h .passed; sense = h .sense } ≡ judgedOf (verdict (w .state .media) (w .state .host) p)
-  -- "While only our calls touch the disc": in every run from power-on
-  pub accounted : (w : World) (cs : List Call) → Accounted d (run d (poweredOn d w) cs)
-  -- "After an accepted insertion, .. only INQUIRY and REQUEST SENSE pass until some command has answered 06 28 00.": in every world, after any
-  -- calls, further events among them
-  pub announced : (w : World) (number : ℕ) (prot : Bool) (disc : List ℕ) (cs : List Call) (p : List ℕ)
-      → let inserted = d .call w (Insert number prot disc) in
-      inserted .heard .house ≡ 0
-      → someAnswersB d (inserted .world) cs ≡ false
-      → d .call (after d (inserted .world) cs) (Command p) .heard .passed ≡ true
-      → (eqb (codeOf p) 0x03 || eqb (codeOf p) 0x12) ≡ true
+  pub judged : Judges d
+  pub accounted : Accounts d
+  pub announced : Announces d

@@ -1,10 +1,10 @@
--- The ledger: an account kept from the calls and from what was heard, and from nothing else.
-use Rattle.ground.specs.Kit.{true, false, cond, not, _&&_, List, [], _∷_, _++_, flatten, ℕ, zero, suc, _+_, _-_, eqb, length, take, drop, set}
+-- The ledger: an account that is blank at power-on, or read off a drive once, and from then on kept from the calls and from what was heard.
+use Rattle.ground.specs.Kit.{true, false, cond, not, _&&_, List, [], _∷_, _++_, flatten, ℕ, zero, suc, _+_, _-_, _/_, _%_, eqb, length, take, drop, set}
 use Rattle.disc.specs.declared.{BlockAddress.BlockAddress}
-use Rattle.state.specs.declared.{Sense.Sense, Media.Media, Host.Host, State.State}
+use Rattle.state.specs.declared.{Sense.Sense, Media.Media, Host.Host, State.State, Transfer.Transfer}
 use Rattle.packet.specs.declared.{Known.Known, Routine.Routine}
 use Rattle.disc.specs.Formats.{formatOf, blockBytes, runBytes}
-use Rattle.state.specs.declared.Transfer.the-variants.{Closed}
+use Rattle.state.specs.declared.Transfer.the-variants.{Closed, Answer as AnswerFrom, Read as ReadFrom, Write as WriteTo}
 use Rattle.state.specs.Senses.{triple, noSense, sameB}
 use Rattle.state.specs.States.{mediaOf, hostOf, stateOf, noMedia}
 use Rattle.packet.specs.Fields.{addressOf, lengthOf}
@@ -12,7 +12,9 @@ use Rattle.packet.specs.Rules.{ruleOf}
 use Rattle.packet.specs.declared.Known.the-variants.{Unknown, Base}
 use Rattle.packet.specs.declared.Routine.the-variants.{Nothing, Motor, Answer, Read, Write}
 use Rattle.answer.specs.Giving.{answerOf, allocationOf}
-use Rattle.house.specs.World.{Heard}
+use Rattle.house.specs.World.{World, Heard}
+use Rattle.feeds.specs.Feeding.{takes}
+use Rattle.pulls.specs.Pulling.{gives}
 use Rattle.drive.specs.Calls.{Call, Insert, Eject, Command, Feed, Pull}
 
 -- the disc's blocks; and of the block being written, which it is and what came of it so far
@@ -36,20 +38,44 @@ pub record Ledger : Type 0 where
 abbrev pub ledger : Media → Host → Store → ℕ → List ℕ → Ledger
 ledger media host stored left coming = record { media = media; host = host; stored = stored; left = left; coming = coming }
 
--- nothing is stored while no disc is in
+-- blocks of which none is being written; without a disc there are none
+abbrev pub unwritten : List (List ℕ) → Store
+unwritten blocks = store blocks (record { 0 = 0 }) []
+
 abbrev pub empty : Store
-empty = store [] (record { 0 = 0 }) []
+empty = unwritten []
 
 -- "Power-on: no disc, .. power-on flag set, change flag clear, no sense, closed."
 abbrev pub blank : Ledger
 blank = ledger noMedia (hostOf true false noSense) empty 0 []
 
--- ---- what is noted of a call
-
 -- the first n blocks of so many bytes
 abbrev pub blocksOf : ℕ → ℕ → List ℕ → List (List ℕ)
 blocksOf size zero disc = []
 blocksOf size (suc n) disc = take size disc ∷ blocksOf size n (drop size disc)
+
+-- the blocks of a disc of that number
+abbrev pub discBlocks : ℕ → List ℕ → List (List ℕ)
+discBlocks number disc = blocksOf (blockBytes number) (formatOf number .blocks) disc
+
+-- ---- the ledger of a drive that is met as it stands
+
+-- its blocks; of an open write the block of that place, and what the block buffer holds of it
+abbrev pub storedIn : ℕ → List ℕ → List (List ℕ) → Transfer → Store
+storedIn size buffer blocks Closed = unwritten blocks
+storedIn size buffer blocks (AnswerFrom p) = unwritten blocks
+storedIn size buffer blocks (ReadFrom p) = unwritten blocks
+storedIn size buffer blocks (WriteTo p) = store blocks (record { 0 = p .at .0 / size }) (take (p .at .0 % size) buffer)
+
+-- read off its world once, before the first call
+abbrev pub ledgerOf : World → Ledger
+ledgerOf w =
+    let s = w .state in
+    let number = s .media .disc in
+    let stored = storedIn (blockBytes number) (w .buffer) (discBlocks number (w .disc)) (s .transfer) in
+    ledger (s .media) (s .host) stored (takes (s .transfer)) (gives (w .buffer) (w .disc) (s .transfer))
+
+-- ---- what is noted of a call
 
 -- so many blocks further on
 abbrev pub blocksOn : BlockAddress → ℕ → BlockAddress
@@ -90,8 +116,7 @@ fed l xs = ledger (l .media) (l .host) (gather (blockBytes (l .media .disc)) (l 
 -- an accepted call; an insertion leaves an open answer, an ejection and a command close whatever was open; a command tells its triple
 abbrev pub accepts : Ledger → Call → Heard → Ledger
 accepts l (Insert number prot disc) h =
-    let blocks = blocksOf (blockBytes number) (formatOf number .blocks) disc in
-    ledger (mediaOf number prot) (hostOf (l .host .power) true (h .sense)) (store blocks (record { 0 = 0 }) []) (l .left) (l .coming)
+    ledger (mediaOf number prot) (hostOf (l .host .power) true (h .sense)) (unwritten (discBlocks number disc)) (l .left) (l .coming)
 accepts l Eject h = ledger noMedia (hostOf (l .host .power) (l .host .change) (h .sense)) empty 0 []
 accepts l (Command p) h =
     let host = hearing (l .host) (h .sense) in

@@ -5,3 +5,4 @@ pub mod Faithful
 pub mod Uncut
 pub mod Together
 pub mod Wrong
+pub mod Independent

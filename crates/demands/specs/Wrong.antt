@@ -1,17 +1,17 @@
 -- Devices that break a demand, each ours but for one thing; proofs/Wrong refutes them.
-use Rattle.ground.specs.Kit.{_≡_, Bool, true, false, cond, _&&_, List, [], _∷_, _++_, ℕ, min, eqb, length, take, drop, replicate, sets}
-use Rattle.state.specs.declared.{DiscAt.DiscAt, Transfer.Transfer}
+use Rattle.ground.specs.Kit.{_≡_, Bool, true, false, cond, _&&_, List, [], _∷_, _++_, ℕ, _-_, min, eqb, length, take, drop, replicate, sets}
+use Rattle.state.specs.declared.{Sense.Sense, DiscAt.DiscAt, Transfer.Transfer}
 use Rattle.packet.specs.declared.{Rule.Rule}
 use Rattle.disc.specs.Formats.{blockBytes}
-use Rattle.state.specs.Senses.{noSense, unknownCode}
+use Rattle.state.specs.Senses.{noSense, unknownCode, sameB}
 use Rattle.state.specs.declared.Transfer.the-variants.{Closed, Answer as AnswerFrom, Read, Write}
 use Rattle.state.specs.States.{hostOf, stateOf, powerOn, obeyedOf}
 use Rattle.packet.specs.Fields.{addressOf}
 use Rattle.packet.specs.Rules.{codeOf}
-use Rattle.house.specs.World.{World, inState, inDisc, Reply, reply}
+use Rattle.house.specs.World.{World, inState, inBuffer, inDisc, Reply, reply}
 use Rattle.drive.specs.Calls.{Call, Insert, Eject, Command, Feed, Pull, callOf}
 use Rattle.demands.specs.Device.{Device}
-use Rattle.demands.specs.Faithful.{Faithful}
+use Rattle.demands.specs.Faithful.{Judges, Accounts, Announces}
 use Rattle.demands.specs.Uncut.{CutAnywhere, Cuttings, READ, Part, Cut, carry, carryAll}
 
 -- what is made of our answer to an insertion, and to a command, a feed and a pull with the packet, piece or buffer
@@ -37,27 +37,31 @@ same w bytes a = a
 abbrev inserting : Events → Device
 inserting f = record { start = powerOn; call = altered f same same same }
 
-abbrev commanding : Calls → Device
+abbrev pub commanding : Calls → Device
 commanding f = record { start = powerOn; call = altered sameEvents f same same }
 
-abbrev feeding : Calls → Device
+abbrev pub feeding : Calls → Device
 feeding f = record { start = powerOn; call = altered sameEvents same f same }
 
 abbrev pulling : Calls → Device
 pulling f = record { start = powerOn; call = altered sameEvents same same f }
 
 -- a refusal stays as it is; an accepted call leaves another world
-abbrev ifAccepted : Reply → Reply → Reply
+abbrev pub ifAccepted : Reply → Reply → Reply
 ifAccepted a b = cond (eqb (a .heard .house) 0) b a
 
-abbrev leaving : Reply → World → Reply
+abbrev pub leaving : Reply → World → Reply
 leaving a w = ifAccepted a (reply 0 (a .heard .passed) (a .heard .count) (a .heard .out) w)
 
 -- ---- "A device that fails everything, one that passes everything, one that hands out zeros always, and one that discards feeds"
 
-abbrev pub failsEverything : Device
-failsEverything =
-    commanding (λ w p a. ifAccepted a (reply 0 false 0 [] (inState w (obeyedOf (w .state) unknownCode (w .state .motor) Closed))))
+-- a failed command
+abbrev pub failing : World → Sense → Reply
+failing w sense = reply 0 false 0 [] (inState w (obeyedOf (w .state) sense (w .state .motor) Closed))
+
+-- whatever triples it gives, the right ones too
+abbrev pub failsEverything : (World → List ℕ → Sense) → Device
+failsEverything says = commanding (λ w p a. ifAccepted a (failing w (says w p)))
 
 abbrev pub passesEverything : Device
 passesEverything =
@@ -121,10 +125,35 @@ withFlags power change w =
 abbrev pub neverReady : Device
 neverReady = commanding (λ w p a. leaving a (withFlags (w .state .host .power) (w .state .host .change) (a .world)))
 
--- ---- the first three versions of the box
+-- ---- "Letting INQUIRY or an unknown code clear a flag": version two, below, and a command of an unknown code that uses the announcement up
 
 abbrev withChange : Bool → World → World
 withChange change w = withFlags (w .state .host .power) change w
+
+abbrev pub unknownCodeClears : Device
+unknownCodeClears = commanding (λ w p a. cond (sameB (a .heard .sense) unknownCode) (leaving a (withChange false (a .world))) a)
+
+-- ---- "changes nothing": a refusal closes what is open
+
+abbrev pub closesAtRefusal : Device
+closesAtRefusal =
+    record {
+      start = powerOn;
+      call = λ w c.
+          let a = callOf w c in
+          cond (eqb (a .heard .house) 0) a (reply (a .heard .house) false 0 (a .heard .out) (with w Closed));
+    }
+
+-- ---- "From a sound state with the right buffers": no answer of ours is longer than 40 bytes, but an open one may end anywhere in the block
+-- ---- buffer; from byte 40 on this device reads zeros there
+
+abbrev zerosFrom40 : List ℕ → List ℕ
+zerosFrom40 buffer = take 40 buffer ++ replicate (length buffer - 40) 0
+
+abbrev pub blankFrom40 : Device
+blankFrom40 = pulling (λ w out a. record { heard = callOf (inBuffer w (zerosFrom40 (w .buffer))) (Pull out) .heard; world = a .world })
+
+-- ---- the first three versions of the box
 
 -- version one swaps silently: the change flag stays as it was
 abbrev pub versionOne : Device
@@ -142,20 +171,23 @@ abbrev pub versionThree : Device
 versionThree =
     feeding (λ w piece a. leaving a (inDisc (inState w (a .world .state)) (storedAt (w .state .transfer) (w .disc) piece (a .heard .count))))
 
--- ---- each breaks demand 2, and demand 3 with it
+-- ---- each breaks demand 2, and demand 3 with it, by the sentence that is named here
 
 pub record Excluded : Type 0 where
-  pub fails-everything : Faithful failsEverything → ⊥
-  pub passes-everything : Faithful passesEverything → ⊥
-  pub hands-out-zeros : Faithful handsOutZeros → ⊥
-  pub discards-feeds : Faithful discardsFeeds → ⊥
-  pub first-block-only : Faithful firstBlockOnly → ⊥
-  pub first-pull-only : Faithful firstPullOnly → ⊥
-  pub makes-up-counts : Faithful makesUpCounts → ⊥
-  pub never-ready : Faithful neverReady → ⊥
-  pub version-one : Faithful versionOne → ⊥
-  pub version-two : Faithful versionTwo → ⊥
-  pub version-three : Faithful versionThree → ⊥
+  pub fails-everything : (says : World → List ℕ → Sense) → Judges (failsEverything says) → ⊥
+  pub passes-everything : Judges passesEverything → ⊥
+  pub hands-out-zeros : Accounts handsOutZeros → ⊥
+  pub discards-feeds : Accounts discardsFeeds → ⊥
+  pub first-block-only : Accounts firstBlockOnly → ⊥
+  pub first-pull-only : Accounts firstPullOnly → ⊥
+  pub makes-up-counts : Accounts makesUpCounts → ⊥
+  pub never-ready : Accounts neverReady → ⊥
+  pub closes-at-refusal : Accounts closesAtRefusal → ⊥
+  pub blank-from-40 : Accounts blankFrom40 → ⊥
+  pub unknown-code-clears : Announces unknownCodeClears → ⊥
+  pub version-one : Announces versionOne → ⊥
+  pub version-two : Announces versionTwo → ⊥
+  pub version-three : Accounts versionThree → ⊥
 
 -- ---- some "obey some cuttings"
 
@@ -164,7 +196,7 @@ OnePullEach [] = Unit
 OnePullEach (x ∷ xs) = (length (x .pieces) ≡ 1) × OnePullEach xs
 
 pub record Obeyed : Type 0 where
-  -- every cutting, so that demand 3 would say nothing without demand 2
+  -- every cutting, so that the cuttings alone would let these in
   pub hands-out-zeros : Cuttings handsOutZeros
   pub discards-feeds : Cuttings discardsFeeds
   pub version-one : Cuttings versionOne

@@ -9,14 +9,7 @@ use Rattle.house.specs.Theorems.{Ready}
 use Rattle.house.proofs.Houses.{ready-in}
 use Rattle.moves.specs.Replies.{idle}
 use Rattle.moves.proofs.Leaving.{Leaves}
-use Rattle.feeds.specs.Feeding.{writeFed, feedBy, feedOf}
-
--- how many bytes it takes
-abbrev pub takes : Transfer → ℕ
-takes Closed = 0
-takes (Answer p) = 0
-takes (Read p) = 0
-takes (Write p) = p .left
+use Rattle.feeds.specs.Feeding.{writeFed, takes, feedBy, feedOf}
 
 -- a transfer that takes nothing, and each that takes bytes
 pub data Feeding (t : Transfer) : Type 0 where

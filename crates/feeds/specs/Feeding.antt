@@ -41,6 +41,13 @@ writeFed p w piece =
     let v = feedBytes (blockBytes (w .state .media .disc)) (writing (p .at) (w .buffer) (w .disc)) (take n piece) in
     reply 0 false n piece (written w (movedOf (w .state) (Write (discAfter p n))) v)
 
+-- how many bytes an open transfer still takes
+abbrev pub takes : Transfer → ℕ
+takes Closed = 0
+takes (Answer p) = 0
+takes (Read p) = 0
+takes (Write p) = p .left
+
 -- "A feed without an open write .. gives count 0 and changes nothing."
 abbrev pub feedBy : Transfer → World → List ℕ → Reply
 feedBy Closed w piece = idle w piece

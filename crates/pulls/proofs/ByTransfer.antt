@@ -1,5 +1,5 @@
 -- A pull by the open transfer: what a proof has to show of it. Assumes nothing.
-use Rattle.ground.specs.Kit.{_≡_, refl, sym, _∙_, List, [], _∷_, ℕ, tagOf, take, drop, OneOf, miss}
+use Rattle.ground.specs.Kit.{_≡_, refl, sym, _∙_, List, [], _∷_, ℕ, tagOf, OneOf, miss}
 use Rattle.state.specs.declared.{AnswerAt.AnswerAt, DiscAt.DiscAt, Transfer.Transfer}
 use Rattle.state.specs.declared.Transfer.the-variants.{Closed, Answer, Read, Write}
 use Rattle.state.proofs.Transfer.{the-type}
@@ -9,14 +9,7 @@ use Rattle.house.specs.Theorems.{Ready}
 use Rattle.house.proofs.Houses.{ready-in}
 use Rattle.moves.specs.Replies.{idle}
 use Rattle.moves.proofs.Leaving.{Leaves}
-use Rattle.pulls.specs.Pulling.{answerPulled, readPulled, pullBy, pullOf}
-
--- the bytes that it gives, from the block buffer or the disc
-abbrev pub gives : List ℕ → List ℕ → Transfer → List ℕ
-gives buffer disc Closed = []
-gives buffer disc (Answer p) = take (p .left) (drop (p .at) buffer)
-gives buffer disc (Read p) = take (p .left) (drop (p .at .0) disc)
-gives buffer disc (Write p) = []
+use Rattle.pulls.specs.Pulling.{answerPulled, readPulled, gives, pullBy, pullOf}
 
 -- a transfer that gives nothing, and each that gives bytes
 pub data Pulling (t : Transfer) : Type 0 where

@@ -1,5 +1,5 @@
 -- Paper 01, "Disc transfers": a pull.
-use Rattle.ground.specs.Kit.{false, List, ℕ, min, length, drop}
+use Rattle.ground.specs.Kit.{false, List, [], ℕ, min, length, take, drop}
 use Rattle.state.specs.declared.{AnswerAt.AnswerAt, DiscAt.DiscAt, Transfer.Transfer}
 use Rattle.ground.specs.Filling.{Filled, fillOf}
 use Rattle.state.specs.States.{movedOf}
@@ -23,6 +23,13 @@ answerPulled p w out = pulledOf (λ n. Answer (answerAfter p n)) w (servedOf (dr
 
 abbrev pub readPulled : DiscAt → World → List ℕ → Reply
 readPulled p w out = pulledOf (λ n. Read (discAfter p n)) w (servedOf (drop (p .at .0) (w .disc)) (p .left) out)
+
+-- the bytes that an open transfer still gives, from the block buffer or the disc
+abbrev pub gives : List ℕ → List ℕ → Transfer → List ℕ
+gives buffer disc Closed = []
+gives buffer disc (Answer p) = take (p .left) (drop (p .at) buffer)
+gives buffer disc (Read p) = take (p .left) (drop (p .at .0) disc)
+gives buffer disc (Write p) = []
 
 -- "a pull without an open read or answer, gives count 0 and changes nothing"
 abbrev pub pullBy : Transfer → World → List ℕ → Reply

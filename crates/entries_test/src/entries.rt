@@ -1,0 +1,109 @@
+// The entries of the drive, called: the caller's buffer is a command's packet, a feed's piece, or what a pull fills.
+use crate::say;
+use drive::EventReply;
+use drive::MoveReply;
+use state::Media;
+use state::State;
+
+pub(crate) enum Entry {
+    Command,
+    Feed,
+    Pull,
+    Insert(Media),
+    Eject,
+}
+
+// One entry, or the five one after the other.
+pub(crate) enum Calls {
+    One(Entry),
+    Each,
+}
+
+// Only a feed and a pull move bytes.
+fn happened(reply: EventReply) -> MoveReply {
+    let house = reply.house;
+    let after = reply.state;
+    MoveReply {
+        house: house,
+        count: 0,
+        state: after,
+    }
+}
+
+fn entered(
+    entry: Entry,
+    state: State,
+    caller: &mut [u8],
+    buffer: &mut [u8],
+    disc: &mut [u8],
+) -> MoveReply {
+    match entry {
+        Entry::Command => {
+            let reply = drive::command(state, caller, buffer, disc);
+            let house = reply.house;
+            let after = reply.state;
+            happened(EventReply {
+                house: house,
+                state: after,
+            })
+        }
+        Entry::Feed => drive::feed(state, caller, buffer, disc),
+        Entry::Pull => drive::pull(state, caller, buffer, disc),
+        Entry::Insert(media) => happened(drive::insert(state, media.disc, media.protected, disc)),
+        Entry::Eject => happened(drive::eject(state)),
+    }
+}
+
+// One call: its house number, the triple and the count.
+fn one(entry: Entry, state: State, caller: &mut [u8], buffer: &mut [u8], disc: &mut [u8]) -> State {
+    let reply = entered(entry, state, caller, buffer, disc);
+    let house = reply.house;
+    let after = reply.state;
+    let sense = after.host.sense;
+    say::house(house);
+    say::sense(sense);
+    say::count(reply.count);
+    after
+}
+
+fn entry_of(turn: u8) -> Entry {
+    match turn {
+        0 => Entry::Command,
+        1 => Entry::Feed,
+        2 => Entry::Pull,
+        3 => Entry::Insert(Media {
+            disc: 4,
+            protected: false,
+        }),
+        _ => Entry::Eject,
+    }
+}
+
+// The five: the house number of each, and the triple in the end.
+fn each(state: State, caller: &mut [u8], buffer: &mut [u8], disc: &mut [u8]) -> State {
+    let mut after = state;
+    for turn in 0..5 {
+        let reply = entered(entry_of(turn), after, caller, buffer, disc);
+        let house = reply.house;
+        let next = reply.state;
+        say::house(house);
+        after = next;
+    }
+    let sense = after.host.sense;
+    say::sense(sense);
+    after
+}
+
+// What is called leaves the state to go on with.
+pub(crate) fn called(
+    calls: Calls,
+    state: State,
+    caller: &mut [u8],
+    buffer: &mut [u8],
+    disc: &mut [u8],
+) -> State {
+    match calls {
+        Calls::One(entry) => one(entry, state, caller, buffer, disc),
+        Calls::Each => each(state, caller, buffer, disc),
+    }
+}
