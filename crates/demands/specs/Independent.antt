@@ -16,7 +16,7 @@ use Rattle.demands.specs.Uncut.{CutAnywhere, ReadsCut, Cuttings, Uncut}
 use Rattle.demands.specs.Wrong.{commanding, feeding, ifAccepted, failing, firstBlockOnly, firstPullOnly, versionThree}
 
 -- a feed leaves the first byte that it took in the block buffer's last byte, which no caller hears: a block has that byte only once it is
--- complete. Cut into two equal pieces the data leave the same mark, cut otherwise they need not
+-- complete. A piece fed twice leaves the mark that it leaves fed double, other cuts need not
 abbrev pub marked : List ℕ → List ℕ → List ℕ
 marked buffer [] = buffer
 marked buffer (x ∷ xs) = set buffer 1023 x

@@ -38,7 +38,7 @@ fn line(
     after
 }
 
-// So many bytes of each, or all there are.
+// Lends so many bytes of each, or all there are.
 fn lend(
     calls: Calls,
     state: State,
@@ -59,6 +59,7 @@ fn lend(
     )
 }
 
+// The same of arrays, whose lengths no proof has to follow.
 pub(crate) fn call(
     calls: Calls,
     state: State,

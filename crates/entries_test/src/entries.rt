@@ -1,6 +1,8 @@
 // The entries of the drive, called: the caller's buffer is a command's packet, a feed's piece, or what a pull fills.
 use crate::say;
+use drive::CommandReply;
 use drive::EventReply;
+use drive::House;
 use drive::MoveReply;
 use state::Media;
 use state::State;
@@ -19,12 +21,42 @@ pub(crate) enum Calls {
     Each,
 }
 
-// Only a feed and a pull move bytes.
-fn happened(reply: EventReply) -> MoveReply {
+// What any of them answers: only a command passes, and only a feed and a pull move bytes.
+struct Answer {
+    house: House,
+    passed: bool,
+    count: usize,
+    state: State,
+}
+
+fn commanded(reply: CommandReply) -> Answer {
     let house = reply.house;
     let after = reply.state;
-    MoveReply {
+    Answer {
         house: house,
+        passed: reply.passed,
+        count: 0,
+        state: after,
+    }
+}
+
+fn moved(reply: MoveReply) -> Answer {
+    let house = reply.house;
+    let after = reply.state;
+    Answer {
+        house: house,
+        passed: false,
+        count: reply.count,
+        state: after,
+    }
+}
+
+fn happened(reply: EventReply) -> Answer {
+    let house = reply.house;
+    let after = reply.state;
+    Answer {
+        house: house,
+        passed: false,
         count: 0,
         state: after,
     }
@@ -36,25 +68,17 @@ fn entered(
     caller: &mut [u8],
     buffer: &mut [u8],
     disc: &mut [u8],
-) -> MoveReply {
+) -> Answer {
     match entry {
-        Entry::Command => {
-            let reply = drive::command(state, caller, buffer, disc);
-            let house = reply.house;
-            let after = reply.state;
-            happened(EventReply {
-                house: house,
-                state: after,
-            })
-        }
-        Entry::Feed => drive::feed(state, caller, buffer, disc),
-        Entry::Pull => drive::pull(state, caller, buffer, disc),
+        Entry::Command => commanded(drive::command(state, caller, buffer, disc)),
+        Entry::Feed => moved(drive::feed(state, caller, buffer, disc)),
+        Entry::Pull => moved(drive::pull(state, caller, buffer, disc)),
         Entry::Insert(media) => happened(drive::insert(state, media.disc, media.protected, disc)),
         Entry::Eject => happened(drive::eject(state)),
     }
 }
 
-// One call: its house number, the triple and the count.
+// One call: its house number, the triple, the count, and whether it passed.
 fn one(entry: Entry, state: State, caller: &mut [u8], buffer: &mut [u8], disc: &mut [u8]) -> State {
     let reply = entered(entry, state, caller, buffer, disc);
     let house = reply.house;
@@ -63,6 +87,7 @@ fn one(entry: Entry, state: State, caller: &mut [u8], buffer: &mut [u8], disc: &
     say::house(house);
     say::sense(sense);
     say::count(reply.count);
+    say::flag(reply.passed, b" passed");
     after
 }
 
@@ -79,7 +104,7 @@ fn entry_of(turn: u8) -> Entry {
     }
 }
 
-// The five: the house number of each, and the triple in the end.
+// The five: the house number of each, and the triple after them.
 fn each(state: State, caller: &mut [u8], buffer: &mut [u8], disc: &mut [u8]) -> State {
     let mut after = state;
     for turn in 0..5 {
@@ -94,7 +119,7 @@ fn each(state: State, caller: &mut [u8], buffer: &mut [u8], disc: &mut [u8]) -> 
     after
 }
 
-// What is called leaves the state to go on with.
+// The answer is the state after the calls.
 pub(crate) fn called(
     calls: Calls,
     state: State,

@@ -1,7 +1,8 @@
 // What no script can reach: discs 1 to 3, buffers of wrong lengths, and states that no run from power-on comes to.
 //
-// A line is a label, the house number, the triple and the count; then, behind bars, the rest of the state, the caller's buffer, the block
-// buffer and the disc, each as the call left it. An open transfer is its place `+` the bytes left, and `xx*N` is a byte N times.
+// A line is a label, the house number, the triple and the count, and whether a command passed; then, behind bars, the rest of the state, the
+// caller's buffer, the block buffer and the disc, each as the call left it. An open transfer is its place `+` the bytes left, and `xx*N` is a
+// byte N times. In the section of unsound states such a state goes to all five entries, and has their five house numbers and no count.
 mod calls;
 mod discs;
 mod entries;

@@ -24,12 +24,15 @@ fn lengths(entry: Entry, transfer: Transfer) {
     let calls = Calls::One(entry);
     let sound = states::flagged(4, transfer, 0);
     let unsound = states::flagged(4, transfer, 1);
+    let other = states::flagged(2, transfer, 0);
     let empty = states::flagged(0, states::answer(0, 4), 0);
     calls::fresh(b"unsound", calls, unsound, 12, 1024, 32768);
     calls::fresh(b"a block buffer of 1023", calls, sound, 12, 1023, 32768);
     calls::fresh(b"a block buffer of 1025", calls, sound, 12, 1025, 32768);
+    calls::fresh(b"a block buffer of 0", calls, sound, 12, 0, 32768);
     calls::fresh(b"a disc of 32767", calls, sound, 12, 1024, 32767);
     calls::fresh(b"a disc of 32769", calls, sound, 12, 1024, 32769);
+    calls::fresh(b"disc 2 of 737280", calls, other, 12, 1024, 737280);
     calls::fresh(b"a disc, none is in", calls, empty, 12, 1024, 32768);
     calls::fresh(b"unsound, both lengths wrong", calls, unsound, 12, 1023, 0);
     calls::fresh(b"both lengths wrong", calls, sound, 12, 1023, 0);
@@ -51,6 +54,7 @@ fn insertions() {
     insert(b"a disc is in", full, 4, 32768);
     insert(b"disc 0", empty, 0, 0);
     insert(b"disc 5", empty, 5, 32768);
+    insert(b"disc 255", empty, 255, 32768);
     insert(b"disc 4 of 32767", empty, 4, 32767);
     insert(b"disc 2 of 737280", empty, 2, 737280);
     insert(b"all of it wrong", states::flagged(4, open, 1), 5, 32767);

@@ -35,7 +35,7 @@ pub(crate) fn sense(sense: Sense) {
     hex(sense.2);
 }
 
-fn flag(set: bool, name: &[u8]) {
+pub(crate) fn flag(set: bool, name: &[u8]) {
     if set {
         text(name);
     }

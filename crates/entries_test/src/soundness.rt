@@ -1,4 +1,4 @@
-// States that are not sound, clause by clause, each with a neighbour that is. All buffers have the right lengths.
+// States that are not sound, clause by clause, and for each clause a neighbour that is. All buffers have the right lengths.
 use crate::calls;
 use crate::entries::Calls;
 use crate::entries::Entry;
@@ -26,6 +26,7 @@ fn media() {
     let read = states::plain(0, false, states::read(0, 512));
     let write = states::plain(0, false, states::write(0, 512));
     unsound(b"disc 5", states::plain(5, false, closed), 0);
+    unsound(b"disc 255", states::plain(255, false, closed), 0);
     sound(b"disc 4", Entry::Eject, bare, 32768);
     unsound(b"protection, no disc", states::plain(0, true, closed), 0);
     sound(b"protection, disc 4", Entry::Eject, protected, 32768);
@@ -89,6 +90,13 @@ fn ends() {
     sound_open(b"a write to 32768", Entry::Feed, states::write(32256, 512));
 }
 
+// More left than there is at all.
+fn long() {
+    unsound_open(b"an answer of 1025", states::answer(0, 1025));
+    unsound_open(b"a read of 32769", states::read(0, 32769));
+    unsound_open(b"a write of 33280", states::write(0, 33280));
+}
+
 // A byte past the ends of the other discs.
 fn disc_ends() {
     let disc_1 = states::plain(1, false, states::read(737279, 2));
@@ -129,6 +137,7 @@ pub(crate) fn all() {
     triples();
     left();
     ends();
+    long();
     disc_ends();
     far_ends();
     writes();

@@ -3,10 +3,10 @@ use Rattle.entries_test.proofs.inside.all.Statement.{statement}
 use Rattle.entries_test.proofs.inside.all.Tie as tie
 
 abbrev Inv-loop : tie.InvT-loop
-Inv-loop buffer₀ room₀ state₀ turn₀ buffer room state turn = turn ≤ 8
+Inv-loop buffer₀ room₀ state₀ turn₀ buffer room state turn = turn ≤ 10
 
 abbrev μ-loop : tie.MeasureT-loop
-μ-loop buffer₀ room₀ state₀ turn₀ buffer room state turn = 8 - turn
+μ-loop buffer₀ room₀ state₀ turn₀ buffer room state turn = 10 - turn
 
 pub all-spec : {M : Type 1} → statement M
 all-spec =
