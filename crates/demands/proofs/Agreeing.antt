@@ -1,8 +1,8 @@
 -- When the ledger agrees with the drive; and that it does after an event, if before it. Assumes nothing.
-use Rattle.ground.specs.Kit.{_≡_, refl, sym, subst, _∙_, Bool, true, List, [], _∷_, flatten, ℕ, _+_, arith, length}
-use Rattle.state.specs.declared.{DiscAt.DiscAt, Media.Media, Transfer.Transfer}
+use Rattle.ground.specs.Kit.{_≡_, refl, sym, _∙_, Bool, true, List, [], _∷_, flatten, ℕ, _+_, arith, length}
+use Rattle.state.specs.declared.{Media.Media, Transfer.Transfer}
 use Rattle.disc.specs.Formats.{formatOf, blockBytes, runBytes, discBytes}
-use Rattle.state.specs.declared.Transfer.the-variants.{Closed, Write}
+use Rattle.state.specs.declared.Transfer.the-variants.{Closed, Answer, Read, Write}
 use Rattle.state.specs.States.{leftOf, closedAtZero, insertedOf, ejectedOf}
 use Rattle.state.proofs.Closing.{by-left}
 use Rattle.sound.specs.Soundness.{openSoundB, soundB}
@@ -20,12 +20,19 @@ use Rattle.demands.proofs.Gathering.{Gathered}
 
 -- ---- what is open is what the ledger takes and gives
 
--- of blocks of b bytes: the bytes to take and the bytes to give are all that is left, and of the block being written the same has come
+-- of the block being written, in blocks of b bytes, the same has come
+abbrev pub GatheredIn : ℕ → List ℕ → List ℕ → Store → Transfer → Type 0
+GatheredIn b buffer disc stored Closed = Unit
+GatheredIn b buffer disc stored (Answer p) = Unit
+GatheredIn b buffer disc stored (Read p) = Unit
+GatheredIn b buffer disc stored (Write p) = Gathered b stored (writing (p .at) buffer disc)
+
+-- the bytes to take and the bytes to give are all that is left
 pub record Opened (b : ℕ) (buffer disc : List ℕ) (stored : Store) (left : ℕ) (coming : List ℕ) (t : Transfer) : Type 0 where
   pub taking : left ≡ takes t
   pub giving : coming ≡ gives buffer disc t
   pub all : takes t + length (gives buffer disc t) ≡ leftOf t
-  pub gathered : (p : DiscAt) → t ≡ Write p → Gathered b stored (writing (p .at) buffer disc)
+  pub gathered : GatheredIn b buffer disc stored t
 
 pub none-listed : (xs : List ℕ) → length xs ≡ 0 → xs ≡ []
 none-listed [] e = refl
@@ -33,11 +40,7 @@ none-listed (x ∷ xs) e = absurd (omega arith)
 
 module _ (b : ℕ) (buffer disc : List ℕ) (stored : Store) where
   pub shut : Opened b buffer disc stored 0 [] Closed
-  shut = record { taking = refl; giving = refl; all = refl; gathered = λ p e. absurd (let z : _≡_ {A = ℕ} 0 1 = cc in omega arith) }
-
-  -- a write has one place
-  pub at-place : (p : DiscAt) → Gathered b stored (writing (p .at) buffer disc) → (q : DiscAt) → Write p ≡ Write q → Gathered b stored (writing (q .at) buffer disc)
-  at-place p g q e = let same : p ≡ q = cc in subst (λ (r : DiscAt). Gathered b stored (writing (r .at) buffer disc)) same g
+  shut = record { taking = refl; giving = refl; all = refl; gathered = tt }
 
   -- with 0 bytes left it is closed
   pub closing : (left : ℕ) (coming : List ℕ) (t : Transfer) → Opened b buffer disc stored left coming t → Opened b buffer disc stored left coming (closedAtZero t)
@@ -59,13 +62,13 @@ pub record Agrees (w : World) (l : Ledger) : Type 0 where
 -- ---- events
 
 -- without a disc no disc transfer is open, so that another disc changes nothing of what is open
-no-disc : (m : Media) → m .disc ≡ 0 → (buffer disc other : List ℕ) (t : Transfer) → openSoundB m t ≡ true
-    → (gives buffer other t ≡ gives buffer disc t) × ((p : DiscAt) → t ≡ Write p → ⊥)
-no-disc m none buffer disc other t s = here (discless m none t s)
+no-disc : (m : Media) → m .disc ≡ 0 → (b : ℕ) (buffer disc other : List ℕ) (stored : Store) (t : Transfer) → openSoundB m t ≡ true
+    → (gives buffer other t ≡ gives buffer disc t) × GatheredIn b buffer other stored t
+no-disc m none b buffer disc other stored t s = here (discless m none t s)
   where
-    here : Discless t → (gives buffer other t ≡ gives buffer disc t) × ((p : DiscAt) → t ≡ Write p → ⊥)
-    here (is-shut q) = (rw q, λ p e. let z : _≡_ {A = ℕ} 0 1 = cc in omega arith)
-    here (answers a q) = (rw q, λ p e. let z : _≡_ {A = ℕ} 0 1 = cc in omega arith)
+    here : Discless t → (gives buffer other t ≡ gives buffer disc t) × GatheredIn b buffer other stored t
+    here (is-shut q) = (rw q, rw q tt)
+    here (answers a q) = (rw q, rw q tt)
 
 module _ (w : World) (sound : soundB (w .state) ≡ true) (l : Ledger) (a : Agrees w l) where
   pub agrees-inserted : (number : ℕ) (prot : Bool) (disc : List ℕ)
@@ -74,7 +77,8 @@ module _ (w : World) (sound : soundB (w .state) ≡ true) (l : Ledger) (a : Agre
   unfolding noted insertedOf discBytes runBytes
   agrees-inserted number prot disc none =
       let i = insert-admits (w .state) number disc .0 none in
-      let (same, no-write) = no-disc (w .state .media) (i .none) (w .buffer) (w .disc) disc (w .state .transfer) (parts (w .state) sound .opened) in
+      let (same, unwritten) =
+      no-disc (w .state .media) (i .none) (blockBytes number) (w .buffer) (w .disc) disc _ (w .state .transfer) (parts (w .state) sound .opened) in
       let o = a .opened in
       record {
         media = refl;
@@ -83,7 +87,7 @@ module _ (w : World) (sound : soundB (w .state) ≡ true) (l : Ledger) (a : Agre
           cut-even (blockBytes number) (formatOf number .blocks) disc (i .whole),
           sym (cut-joins (blockBytes number) (formatOf number .blocks) disc (i .whole)),
         );
-        opened = record { taking = o .taking; giving = o .giving ∙ sym same; all = rw same (o .all); gathered = λ p e. absurd (no-write p e) };
+        opened = record { taking = o .taking; giving = o .giving ∙ sym same; all = rw same (o .all); gathered = unwritten };
       }
 
   pub agrees-ejected : Agrees (acceptedOf w Eject .world) (noted l Eject (acceptedOf w Eject .heard))

@@ -4,9 +4,8 @@ use Rattle.ground.specs.Kit.{_≡_, refl, sym, ap, _∙_, Bool, true, false, tr
 use Rattle.ground.specs.Bytes.{zeros}
 use Rattle.disc.specs.Formats.{bufferBytes, formatOf, blockBytes, runBytes, discBytes}
 use Rattle.state.specs.declared.{Sense.Sense, State.State}
-use Rattle.state.specs.States.{stateOf}
 use Rattle.sound.specs.Soundness.{soundB}
-use Rattle.house.specs.World.{World, world, inState, inLent, Heard, Reply}
+use Rattle.house.specs.World.{World, world, inLent, Heard, Reply}
 use Rattle.house.specs.Refusals.{moveTests, commandTests}
 use Rattle.house.specs.Theorems.{Ready}
 use Rattle.house.proofs.Houses.{insert-admits, eject-admits, command-admits, admits}
@@ -16,7 +15,7 @@ use Rattle.demands.specs.Device.{Device, after}
 use Rattle.demands.specs.Answered.{eventB, Answered}
 use Rattle.demands.specs.Ledger.{Ledger}
 use Rattle.demands.specs.Faithful.{Run, step, met, Accounts}
-use Rattle.demands.specs.Together.{heardIn, HeardAlike, MotorUnheard}
+use Rattle.demands.specs.Together.{heardIn, HeardAlike, withMotor, MotorUnheard}
 use Rattle.demands.proofs.Agreeing.{none-listed}
 use Rattle.demands.proofs.Alone.{Going, goes-on, knows-lengths, heard-here, noted-here, heard-then, going-from}
 
@@ -264,12 +263,12 @@ beside-readied d f w sound =
 
 -- two worlds that differ in the motor flag alone
 motor-alike : (d e : Device) (a : Answered d) → Accounts d → (b : Answered e) → Accounts e → (w : World) (motor : Bool) (cs : List Call)
-    → Same d e a b cs w (inState w (stateOf (w .state .media) motor (w .state .host) (w .state .transfer)))
+    → Same d e a b cs w (withMotor motor w)
 unfolding soundB
 motor-alike d e a f b g w motor cs = by-sound (soundB (w .state)) refl
   where
     v : World
-    v = inState w (stateOf (w .state .media) motor (w .state .host) (w .state .transfer))
+    v = withMotor motor w
 
     by-sound : (t : Bool) → soundB (w .state) ≡ t → Same d e a b cs w v
     by-sound true t =

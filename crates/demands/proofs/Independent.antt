@@ -2,8 +2,9 @@
 use Rattle.ground.specs.Kit.{_≡_, refl, sym, ap, _∙_, Bool, true, false, false≢true, cond, List, [], _∷_, ℕ, arith, eqb-true, ne-eqb, eqb, length, length-set, length-replicate, take, set, take-set-le}
 use Rattle.state.specs.declared.{DiscAt.DiscAt, Transfer.Transfer}
 use Rattle.ground.specs.Bytes.{zeros}
+use Rattle.disc.specs.Formats.{blockBytes}
 use Rattle.disc.proofs.Discs.{block-fits}
-use Rattle.state.specs.declared.Transfer.the-variants.{Closed, Write}
+use Rattle.state.specs.declared.Transfer.the-variants.{Closed, Answer, Read, Write}
 use Rattle.state.specs.Senses.{noSense}
 use Rattle.state.specs.States.{mediaOf, hostOf, stateOf, powerOn, closedAtZero, movedOf}
 use Rattle.state.proofs.Closing.{by-left}
@@ -19,12 +20,12 @@ use Rattle.drive.specs.Calls.{Call, Insert, Eject, Command, Feed, Pull, returne
 use Rattle.drive.proofs.Calling.{by-call, refused}
 use Rattle.drive.proofs.Staying.{stays}
 use Rattle.demands.specs.Answered.{eventB, Answered}
-use Rattle.demands.specs.Ledger.{Ledger}
+use Rattle.demands.specs.Ledger.{Store, Ledger}
 use Rattle.demands.specs.Uncut.{Cuttings}
 use Rattle.demands.specs.Wrong.{feeding, leaving, versionThree}
 use Rattle.demands.specs.Independent.{marked, marksFeeds, startsAnew, Independent}
 use Rattle.demands.proofs.Answered.{answered}
-use Rattle.demands.proofs.Agreeing.{Agrees}
+use Rattle.demands.proofs.Agreeing.{GatheredIn, Agrees}
 use Rattle.demands.proofs.AsOurs.{AsOurs}
 use Rattle.demands.proofs.Faithful.{faithful-as}
 use Rattle.demands.proofs.Carrying.{cuttings, disc-gives}
@@ -72,6 +73,21 @@ marked-length buffer [] = refl
 marked-length buffer (x ∷ xs) = length-set buffer 1023 x
 
 -- the mark is past what came of the block that is open
+marked-gathered : (number : ℕ) (buffer disc : List ℕ) (stored : Store) (x : ℕ) (t : Transfer) → GatheredIn (blockBytes number) buffer disc stored t
+    → GatheredIn (blockBytes number) (set buffer 1023 x) disc stored t
+marked-gathered number buffer disc stored x Closed g = tt
+marked-gathered number buffer disc stored x (Answer p) g = tt
+marked-gathered number buffer disc stored x (Read p) g = tt
+marked-gathered number buffer disc stored x (Write p) g =
+    record {
+      at = g .at;
+      short = g .short;
+      got = take-set-le (length (stored .got)) buffer 1023 x (omega (arith, g .short, block-fits number)) ∙ g .got;
+      held = rw (length-set buffer 1023 x) (g .held);
+      even = g .even;
+      disc = g .disc;
+    }
+
 module _ (u : World) (l : Ledger) (a : Agrees u l)
     (nothing : (b : List ℕ) → gives b (u .disc) (u .state .transfer) ≡ gives (u .buffer) (u .disc) (u .state .transfer)) where
   marked-agrees : (xs : List ℕ) → Agrees (inBuffer u (marked (u .buffer) xs)) l
@@ -87,16 +103,7 @@ module _ (u : World) (l : Ledger) (a : Agrees u l)
           taking = o .taking;
           giving = o .giving ∙ sym same;
           all = rw same (o .all);
-          gathered = λ p e.
-              let g = o .gathered p e in
-              record {
-                at = g .at;
-                short = g .short;
-                got = take-set-le (length (l .stored .got)) (u .buffer) 1023 x (omega (arith, g .short, block-fits (u .state .media .disc))) ∙ g .got;
-                held = rw (length-set (u .buffer) 1023 x) (g .held);
-                even = g .even;
-                disc = g .disc;
-              };
+          gathered = marked-gathered (u .state .media .disc) (u .buffer) (u .disc) (l .stored) x (u .state .transfer) (o .gathered);
         };
       }
 

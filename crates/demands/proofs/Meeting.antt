@@ -1,6 +1,6 @@
 -- The ledger that is read off a ready world agrees with it. Assumes nothing.
 use Rattle.ground.specs.Kit.{_≡_, refl, sym, List, flatten, ℕ, _+_, _≤_, _%_, add-zero, arith, div-add-mod', mod-lt, length, take, drop, length-drop, length-take-le}
-use Rattle.state.specs.declared.{DiscAt.DiscAt, Transfer.Transfer}
+use Rattle.state.specs.declared.{Transfer.Transfer}
 use Rattle.disc.specs.Formats.{formatOf, blockBytes, runBytes, discBytes}
 use Rattle.disc.proofs.Discs.{block-fits, block-holds}
 use Rattle.state.specs.declared.Transfer.the-variants.{Closed, Answer, Read, Write}
@@ -8,12 +8,11 @@ use Rattle.state.specs.States.{leftOf}
 use Rattle.house.specs.World.{World}
 use Rattle.house.specs.Theorems.{Ready}
 use Rattle.moves.proofs.Spans.{may-answer, may-read, may-write}
-use Rattle.feeds.specs.Feeding.{writing, takes}
+use Rattle.feeds.specs.Feeding.{takes}
 use Rattle.pulls.specs.Pulling.{gives}
 use Rattle.demands.specs.Ledger.{discBlocks, storedIn, ledgerOf}
 use Rattle.demands.proofs.BlockLists.{Even, cut-even, cut-joins}
-use Rattle.demands.proofs.Gathering.{Gathered}
-use Rattle.demands.proofs.Agreeing.{Agrees}
+use Rattle.demands.proofs.Agreeing.{GatheredIn, Agrees}
 
 -- what is to come from a source is as long as what is left
 source-long : (source : List ℕ) (at left : ℕ) → at + left ≤ length source → 0 + length (take left (drop at source)) ≡ left
@@ -38,9 +37,14 @@ module _ (w : World) (r : Ready w) where
   joined = sym (cut-joins size (formatOf number .blocks) (w .disc) (r .disc))
 
   -- what the block buffer holds of the block being written
-  gathered : (p : DiscAt) → w .state .transfer ≡ Write p
-      → Gathered size (storedIn size (w .buffer) blocks (Write p)) (writing (p .at) (w .buffer) (w .disc))
-  gathered p e =
+  abbrev Met : Transfer → Type 0
+  Met t = GatheredIn size (w .buffer) (w .disc) (storedIn size (w .buffer) blocks t) t
+
+  gathered : (t : Transfer) → w .state .transfer ≡ t → Met t
+  gathered Closed e = tt
+  gathered (Answer p) e = tt
+  gathered (Read p) e = tt
+  gathered (Write p) e =
       let whole = may-write w r p e .span .whole in
       let short = mod-lt (p .at .0) (block-holds number (whole .low) (whole .high)) in
       let held : size ≤ length (w .buffer) = omega (arith, block-fits number, r .buffer) in
@@ -77,6 +81,6 @@ module _ (w : World) (r : Ready w) where
           taking = refl;
           giving = refl;
           all = all-left (w .state .transfer) refl;
-          gathered = λ p e. rw e (gathered p e);
+          gathered = gathered (w .state .transfer) refl;
         };
       }

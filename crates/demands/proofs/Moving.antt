@@ -1,5 +1,5 @@
 -- A feed and a pull leave the ledger in agreement, and their counts and bytes are the ledger's. Assumes nothing.
-use Rattle.ground.specs.Kit.{_≡_, refl, ap, subst, _∙_, false, List, [], _++_, flatten, ℕ, _+_, _-_, _≤_, min, sub-zero, arith, length, take, drop, length-drop, length-take-le, take-add, drop-at, take-take, drop-drop}
+use Rattle.ground.specs.Kit.{_≡_, ap, subst, _∙_, false, List, [], _++_, flatten, ℕ, _+_, _-_, _≤_, min, sub-zero, arith, length, take, drop, length-drop, length-take-le, take-add, drop-at, take-take, drop-drop}
 use Rattle.state.specs.declared.{Media.Media, AnswerAt.AnswerAt, DiscAt.DiscAt, Transfer.Transfer}
 use Rattle.disc.specs.Formats.{blockBytes}
 use Rattle.state.specs.declared.Transfer.the-variants.{Answer, Read, Write}
@@ -19,7 +19,7 @@ use Rattle.demands.specs.Ledger.{Store, Ledger, ledger, gather, noted}
 use Rattle.demands.specs.Faithful.{foretells}
 use Rattle.demands.proofs.BlockLists.{Even}
 use Rattle.demands.proofs.Gathering.{Gathered, gathered}
-use Rattle.demands.proofs.Agreeing.{Opened, at-place, closing, Agrees}
+use Rattle.demands.proofs.Agreeing.{Opened, closing, Agrees}
 
 -- n bytes further on in what is to come from a source
 further : (source : List ℕ) (at left n : ℕ) → n ≤ left → at + left ≤ length source
@@ -62,7 +62,7 @@ module _ (w : World) (l : Ledger) (a : Agrees w l) (ready : Ready w) where
           let v = feedBytes b from xs in
           let long : length xs ≡ n = length-take-le n piece (omega arith) in
           let place : v .at .0 ≡ p .at .0 + n = feed-at b from xs ∙ ap (λ (m : ℕ). p .at .0 + m) long in
-          let g = gathered b xs (l .stored) from (o .gathered p refl) (omega (arith, long, may-write w ready p e .span .within)) in
+          let g = gathered b xs (l .stored) from (o .gathered) (omega (arith, long, may-write w ready p e .span .within)) in
           let still = subst (λ (at : ℕ). Gathered b (gather b (l .stored) xs) (writing (record { 0 = at }) (v .buffer) (v .disc))) place g in (
             rw (ap (λ (m : Media). blockBytes (m .disc)) (a .media), long)
                 (by-moving (Write (discAfter p n)) v (gather b (l .stored) xs) (l .left - n) (l .coming) (λ _. (g .even, g .disc))
@@ -70,7 +70,7 @@ module _ (w : World) (l : Ledger) (a : Agrees w l) (ready : Ready w) where
                   taking = ap (λ (m : ℕ). m - n) (o .taking);
                   giving = o .giving;
                   all = omega arith;
-                  gathered = at-place _ _ _ _ (discAfter p n) still;
+                  gathered = still;
                 })),
             rw (o .taking, a .host),
           )
@@ -116,7 +116,7 @@ module _ (w : World) (l : Ledger) (a : Agrees w l) (ready : Ready w) where
           let n = min (length out) (p .left) in
           let f = from-source (w .buffer) out (p .at) (p .left) (may-answer w ready p e .within) (o .giving) in (
             by-moving (Answer (answerAfter p n)) (writing (record { 0 = 0 }) (w .buffer) (w .disc)) (l .stored) (l .left) (drop n (l .coming)) (a .disc)
-                (record { taking = o .taking; giving = f .rest; all = omega (arith, f .long); gathered = λ q g. absurd (let z : _≡_ {A = ℕ} 0 1 = cc in omega arith) }),
+                (record { taking = o .taking; giving = f .rest; all = omega (arith, f .long); gathered = tt }),
             f .hears,
           )
 
@@ -126,6 +126,6 @@ module _ (w : World) (l : Ledger) (a : Agrees w l) (ready : Ready w) where
           let n = min (length out) (p .left) in
           let f = from-source (w .disc) out (p .at .0) (p .left) (may-read w ready p e .within) (o .giving) in (
             by-moving (Read (discAfter p n)) (writing (record { 0 = 0 }) (w .buffer) (w .disc)) (l .stored) (l .left) (drop n (l .coming)) (a .disc)
-                (record { taking = o .taking; giving = f .rest; all = omega (arith, f .long); gathered = λ q g. absurd (let z : _≡_ {A = ℕ} 0 1 = cc in omega arith) }),
+                (record { taking = o .taking; giving = f .rest; all = omega (arith, f .long); gathered = tt }),
             f .hears,
           )

@@ -31,7 +31,7 @@ use Rattle.drive.proofs.Commanded.{performed-sense}
 use Rattle.demands.specs.Ledger.{Store, store, Ledger, ledger, opened, noted}
 use Rattle.demands.proofs.BlockLists.{drop-even, from-block, some-blocks}
 use Rattle.demands.proofs.Gathering.{Gathered}
-use Rattle.demands.proofs.Agreeing.{Opened, shut, at-place, closing, Agrees}
+use Rattle.demands.proofs.Agreeing.{Opened, shut, closing, Agrees}
 
 -- ---- answers
 
@@ -144,7 +144,7 @@ module _ (w : World) (l : Ledger) (a : Agrees w l) where
           taking = refl;
           giving = answer-bytes x;
           all = omega (arith, length-take-le (f .count) (f .bytes) few);
-          gathered = λ q e. absurd (let z : _≡_ {A = ℕ} 0 1 = cc in omega arith);
+          gathered = tt;
         })
     agrees-routine Read is-in within =
         let far = within refl in
@@ -154,7 +154,7 @@ module _ (w : World) (l : Ledger) (a : Agrees w l) where
           taking = refl;
           giving = read-blocks (is-in refl);
           all = omega (arith, length-take-le (runBytes number n) rest (simp length-drop (omega arith)));
-          gathered = λ q e. absurd (let z : _≡_ {A = ℕ} 0 1 = cc in omega arith);
+          gathered = tt;
         })
     agrees-routine Write is-in within =
         let span = spanOf number (addressOf p) n in
@@ -163,7 +163,7 @@ module _ (w : World) (l : Ledger) (a : Agrees w l) where
           taking = rw (a .media);
           giving = refl;
           all = add-zero (runBytes number n);
-          gathered = at-place _ _ _ _ span (write-starts (is-in refl));
+          gathered = write-starts (is-in refl);
         })
 
 -- ---- any command

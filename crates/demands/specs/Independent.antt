@@ -1,6 +1,6 @@
 -- A device that breaks demand 1 and meets 2 and 3; one that breaks demand 2 and meets 1 and every cutting of 3; one that breaks a cutting of
 -- demand 3 and meets 1 and 2. And what the cuttings alone exclude.
-use Rattle.ground.specs.Kit.{cond, _&&_, List, [], _∷_, ℕ, eqb, take, set}
+use Rattle.ground.specs.Kit.{false, cond, _&&_, List, [], _∷_, ℕ, eqb, take, set}
 use Rattle.state.specs.Senses.{outOfRange}
 use Rattle.state.specs.States.{powerOn}
 use Rattle.sound.specs.Soundness.{soundB}
@@ -13,7 +13,7 @@ use Rattle.demands.specs.Device.{Device}
 use Rattle.demands.specs.Answered.{Answered}
 use Rattle.demands.specs.Faithful.{Accounts, Faithful}
 use Rattle.demands.specs.Uncut.{CutAnywhere, ReadsCut, Cuttings, Uncut}
-use Rattle.demands.specs.Wrong.{commanding, feeding, ifAccepted, failing, firstBlockOnly, firstPullOnly, versionThree}
+use Rattle.demands.specs.Wrong.{commanding, feeding, ifAccepted, saying, firstBlockOnly, firstPullOnly, versionThree}
 
 -- a feed leaves the first byte that it took in the block buffer's last byte, which no caller hears: a block has that byte only once it is
 -- complete. A piece fed twice leaves the mark that it leaves fed double, other cuts need not
@@ -38,7 +38,7 @@ startsAnew =
 -- a READ (10) of two blocks fails: a READ cut into commands of one block does as the whole, cut otherwise it need not
 abbrev pub failsPairs : Device
 failsPairs =
-    commanding (λ w p a. cond (eqb (codeOf p) 0x28 && eqb (lengthOf Bytes7To8 p) 2) (ifAccepted a (failing w outOfRange)) a)
+    commanding (λ w p a. cond (eqb (codeOf p) 0x28 && eqb (lengthOf Bytes7To8 p) 2) (ifAccepted a (saying false outOfRange w)) a)
 
 pub record Independent : Type 0 where
   -- demands 1 and 2, and not demand 3

@@ -35,11 +35,13 @@ AccountSuffices = (d : Device) → Answered d → Accounts d → Faithful d
 abbrev pub ToldApart : Type 0
 ToldApart = (d : Device) (w : World) (cs : List Call) → (heardIn d w cs ≡ heardIn drive w cs → ⊥) → Answered d → Accounts d → ⊥
 
+-- the same but for the motor flag
+abbrev pub withMotor : Bool → World → World
+withMotor motor w = inState w (stateOf (w .state .media) motor (w .state .host) (w .state .transfer))
+
 -- "the flag changes no other answer": nor is it heard itself
 abbrev pub MotorUnheard : Type 0
-MotorUnheard =
-    (d : Device) → Answered d → Accounts d → (w : World) (motor : Bool) (cs : List Call)
-    → heardIn d w cs ≡ heardIn d (inState w (stateOf (w .state .media) motor (w .state .host) (w .state .transfer))) cs
+MotorUnheard = (d : Device) → Answered d → Accounts d → (w : World) (motor : Bool) (cs : List Call) → heardIn d w cs ≡ heardIn d (withMotor motor w) cs
 
 -- two ready worlds that read as the same ledger are heard alike: what the ledger has nothing of is never heard
 abbrev pub HeardByLedger : Type 0

@@ -55,18 +55,16 @@ leaving a w = ifAccepted a (reply 0 (a .heard .passed) (a .heard .count) (a .hea
 
 -- ---- "A device that fails everything, one that passes everything, one that hands out zeros always, and one that discards feeds"
 
--- a failed command
-abbrev pub failing : World → Sense → Reply
-failing w sense = reply 0 false 0 [] (inState w (obeyedOf (w .state) sense (w .state .motor) Closed))
+-- a command that is said to pass or to fail, with a triple, and opens nothing
+abbrev pub saying : Bool → Sense → World → Reply
+saying passed sense w = reply 0 passed 0 [] (inState w (obeyedOf (w .state) sense (w .state .motor) Closed))
 
 -- whatever triples it gives, the right ones too
 abbrev pub failsEverything : (World → List ℕ → Sense) → Device
-failsEverything says = commanding (λ w p a. ifAccepted a (failing w (says w p)))
+failsEverything says = commanding (λ w p a. ifAccepted a (saying false (says w p) w))
 
 abbrev pub passesEverything : Device
-passesEverything =
-    commanding (λ w p a.
-    cond (a .heard .passed) a (ifAccepted a (reply 0 true 0 [] (inState w (obeyedOf (w .state) noSense (w .state .motor) Closed)))))
+passesEverything = commanding (λ w p a. cond (a .heard .passed) a (ifAccepted a (saying true noSense w)))
 
 abbrev pub handsOutZeros : Device
 handsOutZeros =
