@@ -14,10 +14,14 @@ mod states;
 mod steps;
 
 fn main() {
+    if !shell::is_alone(b"entries_test: usage: entries_test\n") {
+        return;
+    }
     discs::in_use(b"= disc 1, blocks of 512\n", 1, 737280, 1438, 488);
     discs::in_use(b"= disc 2, blocks of 1024\n", 2, 1261568, 1230, 1000);
     discs::in_use(b"= disc 3, blocks of 512\n", 3, 1474560, 2878, 488);
     refusals::all();
     soundness::all();
     inside::all();
+    shell::end(shell::AS_HOPED);
 }

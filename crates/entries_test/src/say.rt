@@ -6,17 +6,25 @@ use state::State;
 use state::Transfer;
 ghost use Rattle.ground.specs.Kit.{_<_, _≤_, length};
 
+// The first that can't be printed is the last that is heard of the test.
+fn printed(whole: bool) {
+    if !whole {
+        shell::trouble_with(b"entries_test", b"standard output");
+        shell::fall_silent();
+    }
+}
+
 pub(crate) fn text(text: &[u8]) {
-    io::write_all(STDOUT_FILENO, text);
+    printed(io::write_all(STDOUT_FILENO, text));
 }
 
 fn decimal(n: usize) {
-    io::print_decimal(STDOUT_FILENO, n as u64);
+    printed(io::print_decimal(STDOUT_FILENO, n as u64));
 }
 
 fn hex(b: u8) {
     text(b" ");
-    io::print_hex(STDOUT_FILENO, b as u64, 2);
+    printed(io::print_hex(STDOUT_FILENO, b as u64, 2));
 }
 
 pub(crate) fn count(n: usize) {

@@ -12,10 +12,11 @@ pub waits : (w : World) (number : ℕ) (script : List ℕ) (ended : Bool) (line 
 unfolding stepOf
 waits w number script ended line e = rw e
 
-pub plays : (w : World) (number : ℕ) (script : List ℕ) (ended : Bool) (line : List ℕ) (s : Said) (used : ℕ) (i : Ink)
-    → readyB script ended ≡ true → s ≡ saidOf w script (recordOf script) → used ≡ lengthField script
+pub plays : (w : World) (number : ℕ) (script : List ℕ) (ended : Bool) (line : List ℕ) (s : Said) (used house : ℕ) (i : Ink)
+    → readyB script ended ≡ true → s ≡ saidOf w script (recordOf script) → used ≡ lengthField script → house ≡ s .house
     → i ≡ putAll (ink 0 line) (lineOf number s)
-    → record { waits = false; bad = s .bad; used = used; line = i; world = s .world } ≡ stepOf w number script ended line
+    → record { waits = false; bad = s .bad; used = used; line = i; house = house; count = s .count; world = s .world }
+    ≡ stepOf w number script ended line
 unfolding stepOf playedOf
-plays w number script ended line s used i ready says takes puts =
-    rw (ready, takes, puts) (ap (playedOf number script line) says)
+plays w number script ended line s used house i ready says takes tells puts =
+    rw (ready, takes, tells, puts) (ap (playedOf number script line) says)

@@ -21,7 +21,7 @@ use Rattle.player.proofs.Lengths.{fits-line}
 
 module _ (w : World) (number : ℕ) (script : List ℕ) (ended : Bool) (line : List ℕ) where
   -- what holds of a step that plays and of one that waits
-  by-ready : (P : Stepped → Type 0) → (readyB script ended ≡ true → P (playedOf number script line (saidOf w script (recordOf script))))
+  pub by-ready : (P : Stepped → Type 0) → (readyB script ended ≡ true → P (playedOf number script line (saidOf w script (recordOf script))))
       → (readyB script ended ≡ false → P (waiting w line)) → P (stepOf w number script ended line)
   unfolding stepOf
   by-ready P plays waits = here (readyB script ended) refl
@@ -92,7 +92,16 @@ whatever-follows w number script more ended line =
 
 -- a step's answer alone
 abbrev answer : Stepped → Progress
-answer s = record { waits = s .waits; bad = s .bad; used = s .used; length = s .line .at; state = s .world .state }
+answer s =
+    record {
+      waits = s .waits;
+      bad = s .bad;
+      used = s .used;
+      length = s .line .at;
+      house = s .house;
+      count = s .count;
+      state = s .world .state;
+    }
 
 pub one-step : OneStep
 one-step s r q line buffer disc line′ buffer′ disc′ e f =

@@ -17,6 +17,9 @@ pub struct Progress {
     pub used: usize,
     // how many bytes its line has
     pub length: usize,
+    // the paper's house number, and how many bytes a feed took or a pull gave
+    pub house: u8,
+    pub count: usize,
     pub state: State,
 }
 
@@ -54,18 +57,23 @@ pub fn step(
             bad: false,
             used: 0,
             length: 0,
+            house: 0,
+            count: 0,
             state: state,
         };
     }
     let mut out = [0u8; record::PIECE_BYTES];
     let outcome = playing::play(state, script, buffer, disc, &mut out);
     let length = lines::put_line(line, &out, number, outcome);
+    let refusal = outcome.house;
     let after = outcome.state;
     Progress {
         waits: false,
         bad: outcome.bad,
         used: record::length_field(script),
         length: length,
+        house: drive::number_of(refusal),
+        count: outcome.count,
         state: after,
     }
 }

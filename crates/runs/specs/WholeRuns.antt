@@ -1,11 +1,13 @@
 -- A whole run of the bench player: "It reads a script from standard input."
-use Rattle.ground.specs.Kit.{_≡_, Bool, false, cond, List, [], _∷_, _++_, ℕ, zero, suc, _+_, _≤_, eqb, length, take, drop, getD, replicate}
+use Rattle.ground.specs.Kit.{_≡_, false, cond, List, [], _++_, ℕ, zero, suc, _+_, _-_, _^_, _<_, _≤_, eqb, length, take, drop, replicate}
 use Rattle.state.specs.States.{powerOn}
 use Rattle.house.specs.World.{World, world}
 use Rattle.record.specs.Records.{lengthField, recordOf}
+use Rattle.window.specs.Streams.{Turn, Machine, reading}
 use Rattle.player.specs.Playing.{saidOf}
 use Rattle.player.specs.Lines.{lineOf}
-use Rattle.player.specs.Steps.{stepOf}
+use Rattle.player.specs.Steps.{Stepped, stepOf}
+use Rattle.turns.specs.Turns.{nextOf}
 
 -- the lines of a script that is there whole, from a world and a record number on; n bounds the number of records
 abbrev pub linesFrom : ℕ → World → ℕ → List ℕ → List ℕ
@@ -27,24 +29,30 @@ bench = world powerOn (replicate 1024 0) (replicate 32768 0)
 abbrev pub printed : List ℕ → List ℕ
 printed script = linesOf bench script
 
--- the bench player as it reads: so many turns, the world, the number of the next record, the bytes that were read and are not played,
--- whether the input has ended, the reads that are still to come, and the buffer of the line. A turn is a step; where it waits the next
--- read goes behind the unread bytes; where that brings none the input has ended; where it waits after that the run stops
-abbrev pub reading : ℕ → World → ℕ → List ℕ → Bool → List (List ℕ) → List ℕ → List ℕ
-reading zero w number unread ended reads line = []
-reading (suc n) w number unread ended reads line =
-    let s = stepOf w number unread ended line in
-    let more = getD reads 0 [] in
-    cond (s .waits) (cond ended [] (reading n w number (unread ++ more) (eqb (length more) 0) (drop 1 reads) line))
-    (take (s .line .at) (s .line .line)
-    ++ cond (s .bad) [] (reading n (s .world) (number + 1) (drop (s .used) unread) ended reads (s .line .line)))
+-- what the bench player keeps from one record to the next: its world, the number of the next record, and the buffer of the line
+pub record Bench : Type 0 where
+  pub world : World
+  pub number : ℕ
+  pub line : List ℕ
 
--- the bytes of the reads, up to the first that brings none
-abbrev pub joined : List (List ℕ) → List ℕ
-joined [] = []
-joined (r ∷ rs) = r ++ cond (eqb (length r) 0) [] (joined rs)
+abbrev pub benchOf : World → ℕ → List ℕ → Bench
+benchOf w number line = record { world = w; number = number; line = line }
 
--- however the script comes, in reads of any length, the same lines are printed
+-- a step, as a turn of a machine that reads (`window` specs/Streams)
+abbrev pub turnBy : ℕ → Stepped → Turn Bench
+turnBy number s =
+    record {
+      waits = s .waits;
+      stops = s .bad;
+      used = s .used;
+      says = take (s .line .at) (s .line .line);
+      next = benchOf (s .world) (nextOf (s .waits) number) (s .line .line);
+    }
+
+abbrev pub playing : Machine Bench
+playing b unread ended = turnBy (b .number) (stepOf (b .world) (b .number) unread ended (b .line))
+
+-- in whatever parts the script comes, into any room that holds the longest record, the same lines are printed
 abbrev pub AnyReads : Type 0
-AnyReads = (w : World) (reads : List (List ℕ)) (line : List ℕ) → 1100 ≤ length line
-    → (n : ℕ) → length (joined reads) + length reads + 2 ≤ n → reading n w 1 [] false reads line ≡ linesOf w (joined reads)
+AnyReads = (w : World) (script parts line : List ℕ) (room : ℕ) → 516 ≤ room → 1100 ≤ length line → length script < 2 ^ 64 - 1
+    → (n : ℕ) → length script + length script + 2 ≤ n → reading playing room n (benchOf w 1 line) [] false script parts ≡ linesOf w script

@@ -1,255 +1,395 @@
-// Plays many scripts, written as text, through the bench player's library, and prints their lines.
+// Plays scripts that are written as text, each record as soon as it is complete, and compares its line with the one that the text expects.
 //
-// A line that starts with `=` is a title: it is printed, and the bytes behind it, up to the next title, are a script of their own.
-// Bytes are two hexadecimal digits each, `xx*N` is a byte N times, and `#` starts a comment.
-use libc::STDERR_FILENO;
-use libc::STDIN_FILENO;
-use libc::STDOUT_FILENO;
-use player::Progress;
+// The first word of a line says what it is: `=` a title, which starts a script anew, `>` what the record before it must print, a record or a
+// command by its name, or else the bytes of a record. README, "Scripts as text", has them all.
+mod acts;
+mod bytes_of;
+mod chars;
+mod expected;
+mod faults;
+mod names;
+mod records;
+mod verbs;
+mod words;
+
+use shell::Input;
+use shell::Options;
 use state::State;
-ghost use Rattle.ground.specs.Kit.{_≡_, _<_, _≤_, length};
 
-const TEXT_BYTES: usize = 262144;
+// A printed line with its explanation.
+const LINE_BYTES: usize = 1300;
 
-// One byte more than a script may have: one that fills the room is too long.
-const SCRIPT_ROOM: usize = 16385;
+// One word holds the bytes of a pull.
+const WORD_BYTES: usize = 1100;
 
-// More bytes than any script has: what cannot be read stands so often, and makes its script too long.
-const TOO_MANY: usize = 100000;
+// More than any printed line has, so that a longer one is never taken for one.
+const EXPECTED_BYTES: usize = 1300;
 
-fn say(text: &[u8]) {
-    io::write_all(STDOUT_FILENO, text);
+// The first line that differed, and what was expected instead.
+const FIRST_BYTES: usize = 2800;
+
+const READ_BYTES: usize = 65536;
+
+type Room = [u8; READ_BYTES];
+
+type Word = [u8; WORD_BYTES];
+
+type Expected = [u8; EXPECTED_BYTES];
+
+type Line = [u8; LINE_BYTES];
+
+type First = [u8; FIRST_BYTES];
+
+type Record = [u8; record::RECORD_BYTES];
+
+type Buffer = [u8; disc::BUFFER_BYTES];
+
+type Disc = [u8; player::DISC_BYTES];
+
+// Where the text is read, and what its line has said so far.
+pub(crate) struct Scan {
+    // nothing is wrong with the text
+    on: bool,
+    // of the byte that is read, both from 1
+    line: u64,
+    column: u64,
+    // words, a comment or a title
+    inside: u8,
+    // what the script has to do now
+    act: u8,
+    // what the line's first word asked for, and with a command's name its code
+    verb: u8,
+    code: u8,
+    // how many words came behind it; where bytes are listed, how many bytes
+    words: usize,
+    // how many bytes the word at hand has so far, and the column of its first
+    word: usize,
+    starts: u64,
+    // a record is begun
+    open: bool,
+    // a byte of a record, so many times
+    byte: u8,
+    times: usize,
+    // how many bytes the record has that the line said by its name
+    length: usize,
+    // how many bytes are expected
+    told: usize,
+    // what is wrong with the text, where, and which bytes of the word show it
+    fault: u8,
+    place: u64,
+    from: usize,
+    upto: usize,
 }
 
-// Plays the record at the front of what is left of a script, and prints its line.
-fn play_record(
-    state: State,
+pub(crate) struct Script {
+    // nothing that it printed was lost
+    on: bool,
+    explain: bool,
+    quiet: bool,
+    // it has not come to a bad record
+    playing: bool,
+    // how many bytes of the next record there are, and its number
+    have: usize,
     number: u64,
-    left: &[u8],
-    buffer: &mut [u8; disc::BUFFER_BYTES],
-    disc: &mut [u8; player::DISC_BYTES],
-) -> Progress {
-    let mut line = [0u8; player::LINE_BYTES];
-    let step = player::step(state, number, left, true, buffer, disc, &mut line);
-    let length = step.length;
-    say(&line[..length]);
-    step
+    state: State,
+    // how many bytes the last record's line has, 0 where there is none to compare, and whether that record was bad
+    said: usize,
+    bad: bool,
+    passed: u64,
+    failed: u64,
+    // bad records that no line expects
+    unexpected: u64,
+    // how many bytes there are of the first difference
+    first: usize,
 }
 
-// Plays a script from power-on, on a disc and a buffer of zeros.
-fn play(script: &[u8]) {
+pub(crate) struct Run {
+    scan: Scan,
+    script: Script,
+}
+
+fn first_scan() -> Scan {
+    Scan {
+        on: true,
+        line: 1,
+        column: 0,
+        inside: chars::WORDS,
+        act: acts::NOTHING,
+        verb: verbs::NOTHING,
+        code: 0,
+        words: 0,
+        word: 0,
+        starts: 0,
+        open: false,
+        byte: 0,
+        times: 0,
+        length: 0,
+        told: 0,
+        fault: faults::NONE,
+        place: 0,
+        from: 0,
+        upto: 0,
+    }
+}
+
+fn first_script(options: Options) -> Script {
+    Script {
+        on: true,
+        explain: options.explain,
+        quiet: options.quiet,
+        playing: true,
+        have: 0,
+        number: 1,
+        state: drive::power_on(),
+        said: 0,
+        bad: false,
+        passed: 0,
+        failed: 0,
+        unexpected: 0,
+        first: 0,
+    }
+}
+
+// No text gets as far as the last number of 64 bits.
+pub(crate) fn next(n: u64) -> u64 {
+    if n < u64::MAX { n + 1 } else { n }
+}
+
+fn is_on(run: Run) -> bool {
+    run.scan.on & run.script.on
+}
+
+fn status(script: Script) -> u8 {
+    if (script.failed == 0) & (script.unexpected == 0) {
+        shell::AS_HOPED
+    } else {
+        shell::WANTING
+    }
+}
+
+// What a byte of the text has the script do.
+fn act(
+    scan: Scan,
+    script: Script,
+    word: &Word,
+    record: &mut Record,
+    line: &mut Line,
+    expected: &Expected,
+    first: &mut First,
+    buffer: &mut Buffer,
+    disc: &mut Disc,
+) -> Script {
+    let what = scan.act;
+    match what {
+        acts::ADD => records::add(script, scan.byte, scan.times, record, line, buffer, disc),
+        acts::PLAY => records::named(script, scan.length, record, line, buffer, disc),
+        acts::CUT => records::cut(script, record, line, buffer, disc),
+        acts::START => records::start(script, record, line, buffer, disc),
+        acts::SHOW => records::show_first(script, word, scan.upto),
+        acts::JUDGE => expected::judge(script, scan.place, line, expected, scan.told, first),
+        _ => script,
+    }
+}
+
+fn step(
+    run: Run,
+    c: u8,
+    word: &mut Word,
+    record: &mut Record,
+    line: &mut Line,
+    expected: &mut Expected,
+    first: &mut First,
+    buffer: &mut Buffer,
+    disc: &mut Disc,
+) -> Run {
+    let before = run.scan;
+    let script = run.script;
+    let scan = chars::take(before, c, 0 < script.have, word, record, expected);
+    let after = act(
+        scan,
+        script,
+        word,
+        record,
+        line,
+        expected,
+        first,
+        buffer,
+        disc,
+    );
+    Run {
+        scan: scan,
+        script: after,
+    }
+}
+
+// What was read of the text, byte by byte.
+fn take_part(
+    run: Run,
+    room: &Room,
+    bytes: usize,
+    word: &mut Word,
+    record: &mut Record,
+    line: &mut Line,
+    expected: &mut Expected,
+    first: &mut First,
+    buffer: &mut Buffer,
+    disc: &mut Disc,
+) -> Run {
+    let n = ground::least(bytes, READ_BYTES);
+    let mut after = run;
+    let mut i = 0;
+    while i < n && is_on(after) {
+        let c = room[i];
+        i += 1;
+        after = step(after, c, word, record, line, expected, first, buffer, disc);
+    }
+    after
+}
+
+// The text has ended: the last record is cut short, if it is begun, and the sum is drawn.
+fn sum_up(
+    run: Run,
+    word: &Word,
+    record: &Record,
+    line: &mut Line,
+    first: &First,
+    buffer: &mut Buffer,
+    disc: &mut Disc,
+) {
+    let scan = run.scan;
+    let script = run.script;
+    if !scan.on {
+        faults::report(scan, word);
+        return;
+    }
+    let over = records::cut(script, record, line, buffer, disc);
+    if over.on && expected::sum_up(over, first) {
+        shell::end(status(over));
+    }
+}
+
+// What one read brought.
+struct Part {
+    failed: bool,
+    ended: bool,
+    bytes: usize,
+}
+
+// A text ends as a line does: where a line is begun, its end brings a line feed.
+fn read_part(descriptor: i32, begun: bool, room: &mut [u8]) -> Part {
+    let got = libc::read(descriptor, room);
+    let bytes = io::count(got, room);
+    let ended = bytes == 0;
+    Part {
+        failed: got < 0,
+        ended: ended,
+        bytes: if ended & begun {
+            text::put(room, 0, b'\n')
+        } else {
+            bytes
+        },
+    }
+}
+
+// The run after a read: the text has ended, or can't be read.
+struct Turned {
+    run: Run,
+    over: bool,
+    failed: bool,
+}
+
+fn turn(
+    run: Run,
+    descriptor: i32,
+    room: &mut Room,
+    word: &mut Word,
+    record: &mut Record,
+    line: &mut Line,
+    expected: &mut Expected,
+    first: &mut First,
+    buffer: &mut Buffer,
+    disc: &mut Disc,
+) -> Turned {
+    let part = read_part(descriptor, 0 < run.scan.column, room);
+    let next = take_part(
+        run,
+        room,
+        part.bytes,
+        word,
+        record,
+        line,
+        expected,
+        first,
+        buffer,
+        disc,
+    );
+    Turned {
+        run: next,
+        over: part.ended | !is_on(next),
+        failed: part.failed,
+    }
+}
+
+// Reads until the text ends or something stops the run.
+fn play(input: Input, name: &[u8], options: Options) {
+    let mut room = [0u8; READ_BYTES];
+    let mut word = [0u8; WORD_BYTES];
+    let mut record = [0u8; record::RECORD_BYTES];
+    let mut line = [0u8; LINE_BYTES];
+    let mut expected = [0u8; EXPECTED_BYTES];
+    let mut first = [0u8; FIRST_BYTES];
     let mut buffer = [0u8; disc::BUFFER_BYTES];
     let mut disc = [0u8; player::DISC_BYTES];
-    let mut state = drive::power_on();
-    let mut at = 0;
-    // no script has more records than bytes, and behind the last a step waits
-    for turn in 0..script.len() {
-        let number = (turn as u64) + 1;
-        let step = play_record(state, number, &script[at..], &mut buffer, &mut disc);
-        if step.bad | step.waits {
+    let mut run = Run {
+        scan: first_scan(),
+        script: first_script(options),
+    };
+    // a loop has to end, and nothing says that the input does: no run uses these turns up
+    let mut turns = u64::MAX;
+    while 0 < turns {
+        turns -= 1;
+        let told = turn(
+            run,
+            input.descriptor,
+            &mut room,
+            &mut word,
+            &mut record,
+            &mut line,
+            &mut expected,
+            &mut first,
+            &mut buffer,
+            &mut disc,
+        );
+        let next = told.run;
+        run = next;
+        if told.failed {
+            shell::unreadable(b"scripts", input, name);
             return;
         }
-        let after = step.state;
-        state = after;
-        at += ground::least(step.used, script.len() - at);
-    }
-}
-
-// A byte of the script, how often it stands, and where the text goes on.
-struct Token {
-    byte: u8,
-    count: usize,
-    next: usize,
-}
-
-fn no_byte(next: usize) -> Token
-    ensures { λ r. ⌜ r .next ≡ next ⌝ }
-{
-    Token {
-        byte: 0,
-        count: 0,
-        next: next,
-    }
-}
-
-fn unreadable(next: usize) -> Token
-    ensures { λ r. ⌜ r .next ≡ next ⌝ }
-{
-    Token {
-        byte: 0,
-        count: TOO_MANY,
-        next: next,
-    }
-}
-
-// 16 where it is no digit.
-fn hex_digit(c: u8) -> u8
-    ensures { λ r. ⌜ r ≤ 16 ⌝ }
-{
-    match c {
-        b'0'..=b'9' => c - 48,
-        b'a'..=b'f' => c - 87,
-        _ => 16,
-    }
-}
-
-// A count of five decimal digits at the most, with a digit more.
-fn with_digit(count: usize, digit: u8) -> usize {
-    if 9 < digit {
-        return TOO_MANY;
-    }
-    if 9999 < count {
-        return TOO_MANY;
-    }
-    count * 10 + (digit as usize)
-}
-
-// A number needs a digit.
-fn if_any(digits: usize, count: usize) -> usize {
-    if digits == 0 { TOO_MANY } else { count }
-}
-
-// A byte as often as the number at a place says.
-fn read_times(line: &[u8], from: usize, byte: u8) -> Token
-    ensures { λ r. ⌜ from ≤ r .next ⌝ }
-{
-    let mut count = 0;
-    let mut at = from;
-    while at < line.len() {
-        let digit = hex_digit(line[at]);
-        if 15 < digit {
-            break;
-        }
-        count = with_digit(count, digit);
-        at += 1;
-    }
-    Token {
-        byte: byte,
-        count: if_any(at - from, count),
-        next: at,
-    }
-}
-
-// A byte once, or as often as the number behind a `*` at a place says.
-fn read_count(line: &[u8], at: usize, byte: u8) -> Token
-    ensures { λ r. ⌜ at ≤ r .next ⌝ }
-{
-    if at < line.len() && line[at] == b'*' {
-        read_times(line, at + 1, byte)
-    } else {
-        Token {
-            byte: byte,
-            count: 1,
-            next: at,
-        }
-    }
-}
-
-// The byte whose two digits are at a place.
-fn read_byte(line: &[u8], at: usize) -> Token
-    requires { ⌜ at < length (now line) ⌝ }
-    ensures { λ r. ⌜ at < r .next ⌝ }
-{
-    if line.len() - at < 2 {
-        return unreadable(at + 1);
-    }
-    let high = hex_digit(line[at]);
-    let low = hex_digit(line[at + 1]);
-    if 15 < high {
-        return unreadable(at + 1);
-    }
-    if 15 < low {
-        return unreadable(at + 1);
-    }
-    read_count(line, at + 2, high * 16 + low)
-}
-
-// What is at a place of a line: spaces and comments are no bytes.
-fn read_token(line: &[u8], at: usize) -> Token
-    requires { ⌜ at < length (now line) ⌝ }
-    ensures { λ r. ⌜ at < r .next ⌝ }
-{
-    match line[at] {
-        b' ' | b'\n' => no_byte(at + 1),
-        b'#' => no_byte(line.len()),
-        _ => read_byte(line, at),
-    }
-}
-
-// The script goes on with a byte, so many times.
-fn append(script: &mut [u8], length: usize, byte: u8, count: usize) -> usize {
-    let mut end = length;
-    for _ in 0..count {
-        end = text::put(script, end, byte);
-    }
-    end
-}
-
-// The script goes on with the bytes of a line.
-fn assemble(script: &mut [u8], length: usize, line: &[u8]) -> usize {
-    let mut end = length;
-    let mut at = 0;
-    while at < line.len() {
-        let token = read_token(line, at);
-        end = append(script, end, token.byte, token.count);
-        at = token.next;
-    }
-    end
-}
-
-// A title ends the script so far, which is played; the answer is the script's length after the line.
-fn take_line(script: &mut [u8], length: usize, line: &[u8]) -> usize
-    requires { do ⌜ length ≤ (← ⟦script.len()⟧) ⌝ }
-{
-    if 0 < line.len() && line[0] == b'=' {
-        play(&script[..length]);
-        say(line);
-        0
-    } else {
-        assemble(script, length, line)
-    }
-}
-
-// Where the line ends that begins at a place, with its line feed.
-fn line_end(text: &[u8], at: usize) -> usize
-    requires { ⌜ at < length (now text) ⌝ }
-    ensures { λ r. ⌜ (at < r) × (r ≤ length (now (text .entry))) ⌝ }
-{
-    let feed = bytes::scan::find(text, at, text.len(), b'\n');
-    if feed < text.len() { feed + 1 } else { feed }
-}
-
-// Plays the scripts of a text, each assembled in the same room.
-fn play_all(text: &[u8], script: &mut [u8]) {
-    let mut length = 0;
-    let mut at = 0;
-    while at < text.len() {
-        let end = line_end(text, at);
-        length = take_line(script, length, &text[at..end]);
-        if script.len() <= length {
-            io::write_all(
-                STDERR_FILENO,
-                b"scripts: this line cannot be read, or makes its script too long: ",
+        if told.over {
+            sum_up(
+                run,
+                &word,
+                &record,
+                &mut line,
+                &first,
+                &mut buffer,
+                &mut disc,
             );
-            io::write_all(STDERR_FILENO, &text[at..end]);
             return;
         }
-        at = end;
     }
-    play(&script[..length]);
 }
 
 fn main() {
-    let mut text = [0u8; TEXT_BYTES];
-    let mut script = [0u8; SCRIPT_ROOM];
-    let size = io::read_full(STDIN_FILENO, &mut text);
-    // at the end of the input one read more brings nothing
-    if libc::read(STDIN_FILENO, &mut script) != 0 {
-        io::write_all(
-            STDERR_FILENO,
-            b"scripts: the text is too long, or cannot be read\n",
-        );
+    let options = shell::asked();
+    if options.wrong {
+        shell::trouble(b"scripts: usage: scripts [--explain] [--quiet] [FILE]\n");
         return;
     }
-    play_all(&text[..size], &mut script);
+    let mut name = [0u8; shell::NAME_BYTES];
+    let input = shell::open(b"scripts", options.file, &mut name);
+    if 0 <= input.descriptor {
+        play(input, &name, options);
+    }
 }

@@ -1,3 +1,4 @@
 pub mod Putting
 pub mod Digits
 pub mod Reading
+pub mod Numerals

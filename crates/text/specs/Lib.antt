@@ -1,2 +1,4 @@
 pub mod Ink
 pub mod Numbers
+pub mod Plain
+pub mod Reading

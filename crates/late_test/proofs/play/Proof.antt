@@ -1,15 +1,6 @@
-use Rattle.ground.specs.Kit.{sym, ap, needs, length-take-le}
-use Rattle.player.specs.Steps.{Stepped}
-use Rattle.player.proofs.Theorems.{ends-in-line}
+use Rattle.ground.specs.Kit.{sym, needs, length-take-le}
 use Rattle.late_test.proofs.play.Statement.{statement}
 use Rattle.late_test.proofs.play.Tie as tie
-
-within : tie.Need-array-share-prefix-line
-within c =
-    rw (c .before .before .before .step .kept .1 .1 .1 .1 .1 .1 .0, ap (λ (s : Stepped). s .line .at) (c .before .before .before .step .ensures)) (ends-in-line _ _ _ _ _)
-
-there : tie.Need-slice-aggregate-write-all
-there c = sym (length-take-le _ _ (within (c .before)))
 
 pub play-spec : {M : Type 1} → statement M
 play-spec =
@@ -21,7 +12,9 @@ play-spec =
     (λ c. search needs)
     (λ c. search needs)
     (λ _ _. tt)
-    within
-    there
+    (λ _ _. tt)
+    (λ c. search needs)
+    (λ c. search needs)
+    (λ c. sym (length-take-le _ _ (search needs)))
     (λ _ _. tt)
     (λ c. search needs))

@@ -10,11 +10,12 @@ returns c = sym (waits _ _ _ _ _ (rw (← c .before .enough .ensures) (not-true 
 returns-2 : tie.Need-returns-2
 unfolding playedLine
 returns-2 c =
-    let line = c .before .before .before .before in
+    let long = c .before in
+    let line = long .before .before .before .before in
     let play = line .before .before .before .before .before .before .before .before in
     let test = play .before .before .before .before in
-    plays _ _ _ _ _ _ _ _ (rw (← test .before .enough .ensures) (not-false _ (test .if1 .left))) (play .play .ensures) (c .length-field .ensures)
-    (line .put-line .ensures)
+    plays _ _ _ _ _ _ (long .length-field .result) (c .number-of .result) _ (rw (← test .before .enough .ensures) (not-false _ (test .if1 .left))) (play .play .ensures) (long .length-field .ensures)
+    (c .number-of .ensures) (line .put-line .ensures)
 
 pub step-spec : {M : Type 1} → statement M
 step-spec =
@@ -25,6 +26,7 @@ step-spec =
     (λ c. search needs)
     (λ c _. refl)
     (λ c. search needs)
+    (λ _ _. tt)
     (λ _ _. tt)
     (λ _ _. tt)
     (λ c. search needs)

@@ -1,0 +1,71 @@
+-- What a line of the player means, in words behind it.
+use Rattle.ground.specs.Kit.{Bool, cond, List, [], _∷_, _++_, ℕ, _≤_, eqb, length, take, drop}
+use Rattle.state.specs.declared.{Sense.Sense}
+use Rattle.disc.specs.declared.{BlockAddress.BlockAddress}
+use Rattle.packet.specs.declared.{Known.Known}
+use Rattle.record.specs.declared.{Record.Record}
+use Rattle.ground.specs.Bytes.{text}
+use Rattle.state.specs.Senses.{noSense, sameB}
+use Rattle.packet.specs.Fields.{addressOf, lengthOf}
+use Rattle.packet.specs.Rules.{codeOf, ruleOf}
+use Rattle.record.specs.Records.{recordOf}
+use Rattle.text.specs.Numbers.{decimalOf}
+use Rattle.explain.specs.Words.{nameText, codeText, whyText, reasonText}
+use Rattle.packet.specs.declared.Known.the-variants.{Unknown, Base}
+use Rattle.record.specs.declared.Record.the-variants.{Insert, Eject, Command, Feed, Pull, Bad}
+
+abbrev pub refusedText : ℕ → List ℕ
+refusedText house = text " refused, " ++ reasonText house
+
+abbrev pub putInText : Bool → List ℕ
+putInText prot = cond prot (text " put in, protected") (text " put in")
+
+unfoldable pub insertionText : ℕ → ℕ → Bool → List ℕ
+insertionText house number prot = text "disc " ++ decimalOf number ++ cond (eqb house 0) (putInText prot) (refusedText house)
+
+unfoldable pub ejectionText : ℕ → List ℕ
+ejectionText house = cond (eqb house 0) (text "disc taken out") (text "ejection" ++ refusedText house)
+
+unfoldable pub rangeText : BlockAddress → ℕ → List ℕ
+rangeText from count = text " of " ++ decimalOf count ++ text " blocks from " ++ decimalOf (from .0)
+
+-- the name, and the blocks of a command that asks check G
+abbrev pub calledBy : Known → List ℕ → List ℕ
+calledBy Unknown p = codeText (codeOf p)
+calledBy (Base rule) p = nameText (codeOf p) ++ cond (rule .asked .range) (rangeText (addressOf p) (lengthOf (rule .length) p)) []
+
+unfoldable pub calledText : List ℕ → List ℕ
+calledText p = calledBy (ruleOf p) p
+
+-- an accepted command has passed where it left the triple 00 00 00
+unfoldable pub endedText : ℕ → Sense → List ℕ
+endedText house sense =
+    cond (eqb house 0) (cond (sameB sense noSense) (text " passed") (text " failed, " ++ whyText sense)) (refusedText house)
+
+unfoldable pub commandText : List ℕ → ℕ → Sense → List ℕ
+commandText p house sense = calledText p ++ endedText house sense
+
+-- a feed or a pull: of the bytes of its piece, or that it asked for, so many
+unfoldable pub moveText : List ℕ → List ℕ → ℕ → ℕ → ℕ → List ℕ
+moveText called moved house count bytes =
+    cond (eqb house 0) (decimalOf count ++ text " of " ++ decimalOf bytes ++ moved) (called ++ refusedText house)
+
+unfoldable pub badText : List ℕ
+badText = text "cut short, or of another kind or length, or a protection above 1, or a pull above 512"
+
+-- a packet stands behind the header of 4 bytes
+abbrev pub meaningOf : List ℕ → ℕ → Sense → ℕ → Record → List ℕ
+meaningOf bytes house sense count (Insert number prot) = insertionText house number prot
+meaningOf bytes house sense count Eject = ejectionText house
+meaningOf bytes house sense count Command = commandText (take 12 (drop 4 bytes)) house sense
+meaningOf bytes house sense count (Feed n) = moveText (text "feed") (text " bytes taken") house count n
+meaningOf bytes house sense count (Pull n) = moveText (text "pull") (text " bytes given") house count n
+meaningOf bytes house sense count Bad = badText
+
+-- what is put behind a line in the place of its line feed
+unfoldable pub explainedText : List ℕ → ℕ → Sense → ℕ → List ℕ
+explainedText bytes house sense count = text ": " ++ meaningOf bytes house sense count (recordOf bytes) ++ (10 ∷ [])
+
+-- it is short, so that a line can be lent that holds it
+abbrev pub ShortText : Type 0
+ShortText = (bytes : List ℕ) (house : ℕ) (sense : Sense) (count : ℕ) → length (explainedText bytes house sense count) ≤ 128

@@ -1,0 +1,5 @@
+pub mod Answers
+pub mod Moving
+pub mod Windows
+pub mod Holding
+pub mod Streams
