@@ -14,7 +14,7 @@ use Rattle.state.specs.Senses.{noSense, namedB, sameB}
 use Rattle.text.specs.Numbers.{hexOf}
 use Rattle.text.proofs.Reading.{few-digits}
 use Rattle.explain.specs.Words.{names, nameText, whys, senseText, whyText, reasons, reasonText}
-use Rattle.explain.specs.Explaining.{refusedText, putInText, insertionText, ejectionText, rangeText, calledBy, calledText, endedText, commandText, moveText, badText, meaningOf, explainedText, ShortText}
+use Rattle.explain.specs.Explaining.{refusedText, putInText, insertionText, ejectionText, rangeText, baseText, calledBy, calledText, endedText, commandText, moveText, badText, meaningOf, explainedText, ShortText}
 use Rattle.packet.specs.declared.Known.the-variants.{Unknown, Base}
 use Rattle.record.specs.declared.Record.the-variants.{Insert, Eject, Command, Feed, Pull, Bad}
 
@@ -55,10 +55,13 @@ ejection-short house = one 54 (eqb house 0) _ _ (omega arith) (omega (arith, ref
 
 range-short : (from : BlockAddress) (count : ℕ) → length (rangeText from count) ≤ 57
 unfolding rangeText
-range-short from count = simp length-append (omega (arith, few-digits count, few-digits (from .0)))
+range-short from count =
+    one 57 (eqb count 0) _ _
+    (simp length-append (omega (arith, few-digits (from .0))))
+    (simp length-append (omega (arith, few-digits count, few-digits (from .0))))
 
 called-short : (k : Known) (p : List ℕ) → length (calledBy k p) ≤ 79
-unfolding hexOf
+unfolding hexOf baseText
 called-short Unknown p = omega arith
 called-short (Base rule) p =
     let range = rangeText (addressOf p) (lengthOf (rule .length) p) in

@@ -2,7 +2,7 @@
 use Rattle.ground.specs.Kit.{Bool, cond, List, [], _∷_, _++_, ℕ, _≤_, eqb, length, take, drop}
 use Rattle.state.specs.declared.{Sense.Sense}
 use Rattle.disc.specs.declared.{BlockAddress.BlockAddress}
-use Rattle.packet.specs.declared.{Known.Known}
+use Rattle.packet.specs.declared.{Known.Known, Rule.Rule}
 use Rattle.record.specs.declared.{Record.Record}
 use Rattle.ground.specs.Bytes.{text}
 use Rattle.state.specs.Senses.{noSense, sameB}
@@ -26,13 +26,18 @@ insertionText house number prot = text "disc " ++ decimalOf number ++ cond (eqb 
 unfoldable pub ejectionText : ℕ → List ℕ
 ejectionText house = cond (eqb house 0) (text "disc taken out") (text "ejection" ++ refusedText house)
 
+-- a command of no blocks has an address alone
 unfoldable pub rangeText : BlockAddress → ℕ → List ℕ
-rangeText from count = text " of " ++ decimalOf count ++ text " blocks from " ++ decimalOf (from .0)
+rangeText from count =
+    cond (eqb count 0) (text " at " ++ decimalOf (from .0)) (text " of " ++ decimalOf count ++ text " blocks from " ++ decimalOf (from .0))
 
 -- the name, and the blocks of a command that asks check G
+unfoldable pub baseText : Rule → List ℕ → List ℕ
+baseText rule p = nameText (codeOf p) ++ cond (rule .asked .range) (rangeText (addressOf p) (lengthOf (rule .length) p)) []
+
 abbrev pub calledBy : Known → List ℕ → List ℕ
 calledBy Unknown p = codeText (codeOf p)
-calledBy (Base rule) p = nameText (codeOf p) ++ cond (rule .asked .range) (rangeText (addressOf p) (lengthOf (rule .length) p)) []
+calledBy (Base rule) p = baseText rule p
 
 unfoldable pub calledText : List ℕ → List ℕ
 calledText p = calledBy (ruleOf p) p

@@ -3,6 +3,7 @@ mod words;
 
 use disc::BlockAddress;
 use packet::Known;
+use packet::Rule;
 use record::COMMAND_BYTES;
 use record::HEADER_BYTES;
 use record::Record;
@@ -12,7 +13,7 @@ use text::put_decimal;
 ghost use Rattle.ground.specs.Kit.{_≡_, _-_};
 ghost use Rattle.text.specs.Ink.{ink, putAll};
 ghost use Rattle.record.specs.Records.{recordOf};
-ghost use Rattle.explain.specs.Explaining.{refusedText, insertionText, ejectionText, rangeText, calledText, endedText, commandText, moveText, meaningOf, explainedText};
+ghost use Rattle.explain.specs.Explaining.{refusedText, insertionText, ejectionText, rangeText, baseText, calledText, endedText, commandText, moveText, meaningOf, explainedText};
 
 fn put_refused(line: &mut [u8], at: usize, house: u8) -> usize
     ensures { λ r. ⌜ ink r (now (line .exit)) ≡ putAll (ink at (now (line .entry))) (refusedText house) ⌝ }
@@ -45,30 +46,41 @@ fn put_ejection(line: &mut [u8], at: usize, house: u8) -> usize
     put_all(line, b"disc taken out", at)
 }
 
+// The blocks of a command; one of no blocks has an address alone.
 fn put_range(line: &mut [u8], at: usize, from: BlockAddress, count: u32) -> usize
     ensures { λ r. ⌜ ink r (now (line .exit)) ≡ putAll (ink at (now (line .entry))) (rangeText from count) ⌝ }
 {
+    if count == 0 {
+        let place = put_all(line, b" at ", at);
+        return put_decimal(line, place, from.0 as u64);
+    }
     let of = put_all(line, b" of ", at);
     let blocks = put_decimal(line, of, count as u64);
     let address = put_all(line, b" blocks from ", blocks);
     put_decimal(line, address, from.0 as u64)
 }
 
-// A command: its name, and the blocks of one that asks check G.
-fn put_called(line: &mut [u8], packet: &[u8], at: usize) -> usize
-    ensures { λ r. ⌜ ink r (now (line .exit)) ≡ putAll (ink at (now (line .entry))) (calledText (now (packet .entry))) ⌝ }
+// A base command: its name, and the blocks of one that asks check G.
+fn put_base(line: &mut [u8], packet: &[u8], at: usize, rule: Rule) -> usize
+    ensures { λ r. ⌜ ink r (now (line .exit)) ≡ putAll (ink at (now (line .entry))) (baseText rule (now (packet .entry))) ⌝ }
 {
-    let code = ground::byte(packet, 0);
-    let Known::Base(rule) = packet::rule_of(packet) else {
-        return words::put_code(line, at, code);
-    };
-    let next = words::put_name(line, at, code);
+    let next = words::put_name(line, at, ground::byte(packet, 0));
     if rule.asked.range {
         let field = rule.length;
         let from = packet::address(packet);
         return put_range(line, next, from, packet::length(field, packet));
     }
     next
+}
+
+fn put_called(line: &mut [u8], packet: &[u8], at: usize) -> usize
+    ensures { λ r. ⌜ ink r (now (line .exit)) ≡ putAll (ink at (now (line .entry))) (calledText (now (packet .entry))) ⌝ }
+{
+    let known = packet::rule_of(packet);
+    match known {
+        Known::Unknown => words::put_code(line, at, ground::byte(packet, 0)),
+        Known::Base(rule) => put_base(line, packet, at, rule),
+    }
 }
 
 fn put_ended(line: &mut [u8], at: usize, house: u8, sense: Sense) -> usize

@@ -166,6 +166,21 @@ fn comment_byte(scan: Scan, c: u8, record: &mut [u8]) -> Scan {
     }
 }
 
+fn take_inside(
+    scan: Scan,
+    c: u8,
+    word: &mut [u8],
+    record: &mut Record,
+    expected: &mut [u8],
+) -> Scan {
+    let inside = scan.inside;
+    match inside {
+        WORDS => word_byte(scan, c, word, record, expected),
+        TITLE => title_byte(scan, c, word),
+        _ => comment_byte(scan, c, record),
+    }
+}
+
 // The next byte of the text, where a record is begun or not.
 pub(crate) fn take(
     scan: Scan,
@@ -181,10 +196,9 @@ pub(crate) fn take(
     here.act = acts::NOTHING;
     here.times = 0;
     here.length = 0;
-    let inside = scan.inside;
-    match inside {
-        WORDS => word_byte(here, c, word, record, expected),
-        TITLE => title_byte(here, c, word),
-        _ => comment_byte(here, c, record),
+    here.cr = c == b'\r';
+    if scan.cr & (c != b'\n') {
+        return faults::lone_cr(scan);
     }
+    take_inside(here, c, word, record, expected)
 }

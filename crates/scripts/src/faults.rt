@@ -27,6 +27,10 @@ pub(crate) const NOT_COMPLETE: u8 = 11;
 
 pub(crate) const LONG_WORD: u8 = 12;
 
+pub(crate) const LONE_CR: u8 = 13;
+
+pub(crate) const NOTHING_EXPECTED: u8 = 14;
+
 // How much of a long word is shown.
 const SHOWN: usize = 40;
 
@@ -63,6 +67,11 @@ pub(crate) fn long_word(scan: Scan) -> Scan {
     at(scan, LONG_WORD, 0, SHOWN)
 }
 
+// A CR belongs to the end of a line: it was the byte before.
+pub(crate) fn lone_cr(scan: Scan) -> Scan {
+    at_end(scan, LONE_CR)
+}
+
 fn put_cause(line: &mut [u8], at: usize, fault: u8) -> usize {
     match fault {
         NOT_HEX => text::put_all(line, b"not a hex digit", at),
@@ -76,7 +85,9 @@ fn put_cause(line: &mut [u8], at: usize, fault: u8) -> usize {
         OVER_12 => text::put_all(line, b"more than 12 bytes", at),
         OVER_512 => text::put_all(line, b"more than 512 bytes", at),
         NOT_COMPLETE => text::put_all(line, b"the record before is not complete", at),
-        _ => text::put_all(line, b"the word is too long", at),
+        LONG_WORD => text::put_all(line, b"the word is too long", at),
+        LONE_CR => text::put_all(line, b"a CR without a LF", at),
+        _ => text::put_all(line, b"nothing is expected", at),
     }
 }
 

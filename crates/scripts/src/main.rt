@@ -25,8 +25,8 @@ const WORD_BYTES: usize = 1100;
 // More than any printed line has, so that a longer one is never taken for one.
 const EXPECTED_BYTES: usize = 1300;
 
-// The first line that differed, and what was expected instead.
-const FIRST_BYTES: usize = 2800;
+// The first line that differed, and what was expected instead, each byte of that shown by up to four.
+const FIRST_BYTES: usize = 6800;
 
 const READ_BYTES: usize = 65536;
 
@@ -55,6 +55,8 @@ pub(crate) struct Scan {
     column: u64,
     // words, a comment or a title
     inside: u8,
+    // the byte before was a CR
+    cr: bool,
     // what the script has to do now
     act: u8,
     // what the line's first word asked for, and with a command's name its code
@@ -114,6 +116,7 @@ fn first_scan() -> Scan {
         line: 1,
         column: 0,
         inside: chars::WORDS,
+        cr: false,
         act: acts::NOTHING,
         verb: verbs::NOTHING,
         code: 0,
@@ -283,7 +286,7 @@ fn read_part(descriptor: i32, begun: bool, room: &mut [u8]) -> Part {
     Part {
         failed: got < 0,
         ended: ended,
-        bytes: if ended & begun {
+        bytes: if ended & begun & (0 <= got) {
             text::put(room, 0, b'\n')
         } else {
             bytes

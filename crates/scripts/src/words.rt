@@ -130,14 +130,20 @@ fn begin(scan: Scan, record: &mut Record, verb: u8, code: u8) -> Scan {
     after
 }
 
-// Bytes of a record without a word before them.
+// Bytes of a record; `xx*0` is none.
+fn take_raw(scan: Scan, word: &[u8]) -> Scan {
+    let told = bytes_of::take(scan, word);
+    if told.times == 0 { told } else { counted(told) }
+}
+
+// The same without a word before them.
 fn begin_raw(scan: Scan, word: &[u8]) -> Scan {
     if !bytes_of::looks_so(word) {
         return faults::of_word(scan, faults::NO_SUCH_WORD, word);
     }
     let mut after = scan;
     after.verb = verbs::RAW;
-    counted(bytes_of::take(after, word))
+    take_raw(after, word)
 }
 
 fn take_first(scan: Scan, word: &[u8], record: &mut Record) -> Scan {
@@ -171,7 +177,7 @@ pub(crate) fn take(scan: Scan, word: &[u8], record: &mut Record, expected: &mut 
     match verb {
         verbs::NOTHING => take_first(scan, word, record),
         verbs::EXPECTED => take_expected(scan, word, expected),
-        verbs::RAW => counted(bytes_of::take(scan, word)),
+        verbs::RAW => take_raw(scan, word),
         verbs::COMMAND | verbs::FEED => bytes_of::take_listed(scan, word, record),
         _ => take_field(scan, word, record),
     }
@@ -190,6 +196,9 @@ fn put_header(scan: Scan, record: &mut [u8], length: usize, kind: u8) -> Scan {
 // What is not there at the end of a line.
 fn missing(scan: Scan) -> u8 {
     let field = names::field_of(scan.verb, scan.code, scan.words);
+    if (scan.verb == verbs::EXPECTED) & (scan.told == 0) {
+        return faults::NOTHING_EXPECTED;
+    }
     let lists = (scan.verb == verbs::RAW) | (scan.verb == verbs::COMMAND);
     if lists & (scan.words == 0) {
         return faults::NO_BYTE;

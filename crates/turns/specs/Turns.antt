@@ -77,7 +77,7 @@ turnOf run room buffer disc line =
     leftBy window room (run .number)
     (stepOf (world (run .state) buffer disc) (run .number) (unread window room) (window .ended) line)
 
--- after a read: none is due any more; "a failed read stops the run"
+-- after a read: none is due any more, and one that failed stops the run
 abbrev pub cameOf : Run → ℤ → List ℕ → Run
 cameOf run got room =
     record {
