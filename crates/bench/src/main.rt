@@ -6,30 +6,9 @@ ghost use Rattle.ground.specs.Kit.{_≤_, length};
 // As much as one read may bring.
 const ROOM_BYTES: usize = 65536;
 
-// A line with its explanation.
-const LINE_BYTES: usize = 1300;
-
-// How much of the line is to be printed: with its explanation, if it is asked for.
-fn explained(run: Run, explain: bool, room: &[u8], line: &mut [u8]) -> usize {
-    if !(explain & (0 < run.length)) {
-        return run.length;
-    }
-    let sense = run.state.host.sense;
-    let upto = ground::least(run.window.upto, room.len());
-    let first = ground::least(run.first, upto);
-    explain::put_explained(
-        line,
-        run.length,
-        &room[first..upto],
-        run.house,
-        sense,
-        run.count,
-    )
-}
-
 // The line goes out whole, or the run has to stop.
-fn print(run: Run, explain: bool, room: &[u8], line: &mut [u8]) -> bool {
-    let n = ground::least(explained(run, explain, room, line), line.len());
+fn print(run: Run, line: &[u8]) -> bool {
+    let n = ground::least(run.length, line.len());
     shell::print(b"bench", &line[..n])
 }
 
@@ -65,13 +44,13 @@ fn play(input: Input, name: &[u8], explain: bool) {
     let mut room = [0u8; ROOM_BYTES];
     let mut buffer = [0u8; disc::BUFFER_BYTES];
     let mut disc = [0u8; player::DISC_BYTES];
-    let mut line = [0u8; LINE_BYTES];
+    let mut line = [0u8; explain::LINE_BYTES];
     let mut run = turns::start();
     // a loop has to end, and nothing says that the input does: no run uses these turns up
     let mut left = u64::MAX;
     while (0 < left) & run.on {
-        let played = turns::turn(run, &mut room, &mut buffer, &mut disc, &mut line);
-        if !print(played, explain, &room, &mut line) {
+        let played = turns::turn(run, explain, &mut room, &mut buffer, &mut disc, &mut line);
+        if !print(played, &line) {
             return;
         }
         let refilled = refill(played, input.descriptor, &mut room);

@@ -1,12 +1,13 @@
 -- What a verdict says: a command that passes has a rule and passed each of its checks, one that fails gives a named triple. Assumes nothing.
-use Rattle.ground.specs.Kit.{_≡_, refl, ap, Bool, true, false, _&&_, List, ℕ, _+_, _≤_, arith, not-false, eqb-false, ltb-false, eqb, leb, ltb}
+use Rattle.ground.specs.Kit.{_≡_, refl, ap, Bool, true, false, not, _&&_, List, ℕ, _+_, _≤_, arith, not-false, eqb-false, ltb-false, eqb, leb, ltb}
 use Rattle.state.specs.declared.{Sense.Sense, Media.Media, Host.Host}
 use Rattle.packet.specs.declared.{Rule.Rule, Known.Known}
 use Rattle.checks.specs.declared.{Verdict.Verdict}
 use Rattle.ground.proofs.Truth.{neither, implies}
 use Rattle.ground.proofs.First.{none-failed, outcome-passes}
+use Rattle.ground.proofs.Tables.{all}
 use Rattle.disc.specs.Formats.{formatOf}
-use Rattle.state.specs.Senses.{namedB}
+use Rattle.state.specs.Senses.{noSense, unknownCode, sameB, namedB}
 use Rattle.packet.specs.Fields.{addressOf, lengthOf}
 use Rattle.packet.specs.Rules.{ruleOf}
 use Rattle.packet.specs.declared.Known.the-variants.{Unknown, Base}
@@ -54,18 +55,27 @@ module _ (m : Media) (h : Host) (p : List ℕ) where
           } in
           rw same at all
 
-  -- a triple that is given is one of those named
-  abbrev namedIn : Verdict → Bool
-  namedIn (Passes rule) = true
-  namedIn (Fails sense) = namedB sense
+  -- what the triple of each check passes, a triple that is given passes
+  abbrev givenB : (Sense → Bool) → Verdict → Bool
+  givenB test (Passes rule) = true
+  givenB test (Fails sense) = test sense
+
+  given-passes : (test : Sense → Bool) → test unknownCode ≡ true → ((rule : Rule) → all (λ c. test (c .1)) (checksOf m h rule p) ≡ true) → (sense : Sense)
+      → verdict m h p ≡ Fails sense → test sense ≡ true
+  unfolding verdict
+  given-passes test unknown each sense e = rw e at (here (ruleOf p))
+    where
+      here : (k : Known) → givenB test (verdictOf k m h p) ≡ true
+      here Unknown = unknown
+      here (Base rule) = outcome-passes failsB failing (givenB test) (checksOf m h rule p) (Passes rule) (each rule) refl
 
   pub gives-named : (sense : Sense) → verdict m h p ≡ Fails sense → namedB sense ≡ true
-  unfolding verdict checksOf namedB
-  gives-named sense e = rw e at (here (ruleOf p))
-    where
-      here : (k : Known) → namedIn (verdictOf k m h p) ≡ true
-      here Unknown = refl
-      here (Base rule) = outcome-passes failsB failing namedIn (checksOf m h rule p) (Passes rule) refl refl
+  unfolding checksOf namedB
+  gives-named = given-passes namedB refl (λ _. refl)
+
+  pub gives-told : (sense : Sense) → verdict m h p ≡ Fails sense → not (sameB sense noSense) ≡ true
+  unfolding checksOf
+  gives-told = given-passes (λ s. not (sameB s noSense)) refl (λ _. refl)
 
 -- ---- what opens blocks: a disc is in, its blocks are on it, and a write finds no protection
 

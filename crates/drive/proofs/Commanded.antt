@@ -1,5 +1,5 @@
 -- What a command leaves: a sound state, what is lent as long as it was, and the flags but for the one that it reports. Assumes nothing.
-use Rattle.ground.specs.Kit.{_≡_, refl, Bool, true, false, _||_, List, ℕ, _+_, _%_, _≤_, add-mul, mul-mod-left, mul-zero, arith, eqb, length}
+use Rattle.ground.specs.Kit.{_≡_, refl, sym, Bool, true, false, _||_, List, ℕ, _+_, _%_, _≤_, add-mul, mul-mod-left, mul-zero, arith, not-true, eqb, length}
 use Rattle.disc.specs.declared.{BlockAddress.BlockAddress}
 use Rattle.state.specs.declared.{AnswerAt.AnswerAt, Transfer.Transfer}
 use Rattle.packet.specs.declared.{Rule.Rule, Routine.Routine}
@@ -19,11 +19,14 @@ use Rattle.packet.specs.declared.Routine.the-variants.{Nothing, Motor, Answer, 
 use Rattle.packet.proofs.BaseCommands.{opensB, writesB}
 use Rattle.checks.specs.Verdicts.{verdict}
 use Rattle.checks.specs.declared.Verdict.the-variants.{Passes, Fails}
-use Rattle.checks.proofs.Passing.{passed, gives-named, disc-in, in-range, bare}
+use Rattle.checks.proofs.Passing.{passed, gives-named, gives-told, disc-in, in-range, bare}
 use Rattle.answer.specs.Giving.{giveOf}
 use Rattle.answer.proofs.Given.{give-count, give-length}
 use Rattle.house.specs.World.{World}
 use Rattle.commands.specs.Obeying.{spanOf, routineOf, performedOf, replyTo}
+use Rattle.drive.specs.Calls.{Command}
+use Rattle.drive.specs.Theorems.{PassedByTriple}
+use Rattle.drive.proofs.Calling.{accepted}
 
 -- ---- soundness
 
@@ -134,3 +137,14 @@ module _ (w : World) (p : List ℕ) where
       let (power, change) = neither (sameB sense powerTold) (sameB sense changeTold) e in
       record { power = rw power; change = rw change }
   replied-untold (Passes rule) e = routine-keeps (lengthOf (rule .length) p) (rule .routine) .1
+
+-- ---- whether it passed
+
+told-passed : (w : World) (p : List ℕ) (v : Verdict) → verdict (w .state .media) (w .state .host) p ≡ v
+    → replyTo v w p .heard .passed ≡ sameB (replyTo v w p .world .state .host .sense) noSense
+unfolding obeyedOf
+told-passed w p (Fails sense) e = sym (not-true (sameB sense noSense) (gives-told (w .state .media) (w .state .host) p sense e))
+told-passed w p (Passes rule) e = rw (performed-sense w p rule)
+
+pub passed-by-triple : PassedByTriple
+passed-by-triple w p none = rw (accepted w (Command p) none) (told-passed w p (verdict (w .state .media) (w .state .host) p) refl)

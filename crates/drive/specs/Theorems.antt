@@ -1,4 +1,4 @@
--- What holds of the entries; proved in proofs/Staying, OneReply, Whole and Pending. What holds of every call is stated of any device, in
+-- What holds of the entries; proved in proofs/Staying, OneReply, Whole, Commanded and Pending. What holds of every call is stated of any device, in
 -- `demands` specs/Answered.
 use Rattle.ground.specs.Kit.{_≡_, Bool, true, false, cond, not, _&&_, _||_, List, [], _∷_, _++_, ℕ, suc, _+_, _-_, _%_, _≤_, eqb, leb, ltb, length, take, drop}
 use Rattle.disc.specs.declared.{BlockAddress.BlockAddress, BytePlace.BytePlace}
@@ -8,7 +8,7 @@ use Rattle.commands.specs.declared.{EventReply.EventReply, CommandReply.Command
 use Rattle.moves.specs.declared.{MoveReply.MoveReply}
 use Rattle.disc.specs.Formats.{bufferBytes, blockBytes, placeOf}
 use Rattle.state.specs.declared.Transfer.the-variants.{Write}
-use Rattle.state.specs.Senses.{changeTold, sameB}
+use Rattle.state.specs.Senses.{noSense, changeTold, sameB}
 use Rattle.state.specs.States.{powerOn}
 use Rattle.sound.specs.Soundness.{soundB}
 use Rattle.packet.specs.Rules.{codeOf, ruleOf}
@@ -21,7 +21,7 @@ use Rattle.commands.specs.Obeying.{commanded}
 use Rattle.moves.specs.Places.{Whole}
 use Rattle.moves.specs.Replies.{moved, onward}
 use Rattle.feeds.specs.Feeding.{Writing, writing, feedByte, feedBytes, feedOf}
-use Rattle.drive.specs.Calls.{Call, Insert, Eject, Command, Feed, Pull, callOf}
+use Rattle.drive.specs.Calls.{Call, Insert, Eject, Command, Feed, Pull, houseOf, callOf}
 
 abbrev pub PowerOnSound : Type 0
 PowerOnSound = soundB powerOn ≡ true
@@ -97,6 +97,12 @@ FedAllOldOrAllNew =
     blockOf number (fed .world .disc) k
     ≡ cond (completesB number (p .at) count k) (gatheredOf number (writing (p .at) (w .buffer) (w .disc)) (take count piece) k)
     (blockOf number (w .disc) k)
+
+-- ---- an accepted command has passed where it left the triple 00 00 00, and nowhere else
+
+abbrev pub PassedByTriple : Type 0
+PassedByTriple = (w : World) (p : List ℕ) → houseOf w (Command p) ≡ 0
+    → let r = callOf w (Command p) in r .heard .passed ≡ sameB (r .world .state .host .sense) noSense
 
 -- ---- "So while a change is pending, of the commands that pass A and B and aren't 03 or 12, the second at the latest reports a
 -- ---- change, if no event comes between."

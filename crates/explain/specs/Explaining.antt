@@ -1,14 +1,15 @@
 -- What a line of the player means, in words behind it.
-use Rattle.ground.specs.Kit.{Bool, cond, List, [], _∷_, _++_, ℕ, _≤_, eqb, length, take, drop}
+use Rattle.ground.specs.Kit.{_≡_, Bool, true, false, cond, List, [], _∷_, _++_, ℕ, _<_, _≤_, eqb, length, take, drop}
 use Rattle.state.specs.declared.{Sense.Sense}
 use Rattle.disc.specs.declared.{BlockAddress.BlockAddress}
 use Rattle.packet.specs.declared.{Known.Known, Rule.Rule}
 use Rattle.record.specs.declared.{Record.Record}
 use Rattle.ground.specs.Bytes.{text}
-use Rattle.state.specs.Senses.{noSense, sameB}
+use Rattle.state.specs.Senses.{noSense, sameB, namedB}
 use Rattle.packet.specs.Fields.{addressOf, lengthOf}
 use Rattle.packet.specs.Rules.{codeOf, ruleOf}
 use Rattle.record.specs.Records.{recordOf}
+use Rattle.record.specs.Waiting.{enoughB}
 use Rattle.text.specs.Numbers.{decimalOf}
 use Rattle.explain.specs.Words.{nameText, codeText, whyText, reasonText}
 use Rattle.packet.specs.declared.Known.the-variants.{Unknown, Base}
@@ -42,7 +43,7 @@ calledBy (Base rule) p = baseText rule p
 unfoldable pub calledText : List ℕ → List ℕ
 calledText p = calledBy (ruleOf p) p
 
--- an accepted command has passed where it left the triple 00 00 00
+-- an accepted command has passed where it left the triple 00 00 00 (`drive` specs/Theorems `PassedByTriple`)
 unfoldable pub endedText : ℕ → Sense → List ℕ
 endedText house sense =
     cond (eqb house 0) (cond (sameB sense noSense) (text " passed") (text " failed, " ++ whyText sense)) (refusedText house)
@@ -70,6 +71,17 @@ meaningOf bytes house sense count Bad = badText
 -- what is put behind a line in the place of its line feed
 unfoldable pub explainedText : List ℕ → ℕ → Sense → ℕ → List ℕ
 explainedText bytes house sense count = text ": " ++ meaningOf bytes house sense count (recordOf bytes) ++ (10 ∷ [])
+
+-- no words are missing: every base command has a name, every triple of a check says why, and every refusal
+pub record AllSaid : Type 0 where
+  pub names : (p : List ℕ) (rule : Rule) → ruleOf p ≡ Base rule → 0 < length (nameText (codeOf p))
+  pub whys : (s : Sense) → namedB s ≡ true → sameB s noSense ≡ false → 0 < length (whyText s)
+  pub reasons : (house : ℕ) → 0 < house → 0 < length (reasonText house)
+
+-- what comes behind a record that can be told changes no word
+abbrev pub SameWords : Type 0
+SameWords = (bytes more : List ℕ) (house : ℕ) (sense : Sense) (count : ℕ) → enoughB bytes ≡ true
+    → explainedText (bytes ++ more) house sense count ≡ explainedText bytes house sense count
 
 -- it is short, so that a line can be lent that holds it
 abbrev pub ShortText : Type 0

@@ -15,6 +15,9 @@ ghost use Rattle.text.specs.Ink.{ink, putAll};
 ghost use Rattle.record.specs.Records.{recordOf};
 ghost use Rattle.explain.specs.Explaining.{refusedText, insertionText, ejectionText, rangeText, baseText, calledText, endedText, commandText, moveText, meaningOf, explainedText};
 
+// Long enough for every line of the player with its words.
+pub const LINE_BYTES: usize = 1300;
+
 fn put_refused(line: &mut [u8], at: usize, house: u8) -> usize
     ensures { λ r. ⌜ ink r (now (line .exit)) ≡ putAll (ink at (now (line .entry))) (refusedText house) ⌝ }
 {
@@ -156,8 +159,7 @@ fn before_end(length: usize) -> usize
     if length == 0 { 0 } else { length - 1 }
 }
 
-// Goes on behind a line of `length` bytes, in the place of its line feed. `bytes` begin with the record; house number, triple and count
-// are those of the line.
+// Goes on behind a line of `length` bytes, in the place of its line feed; `bytes` begin with the record, and the rest is as the line says it.
 pub fn put_explained(
     line: &mut [u8],
     length: usize,

@@ -1,16 +1,16 @@
 -- What holds of every step. Assumes nothing.
-use Rattle.ground.specs.Kit.{_≡_, refl, sym, ap, _∙_, Bool, true, false, cond, not, _&&_, or-false, true≢false, false≢true, List, _++_, ℕ, _+_, _<_, _≤_, arith, eqb, length, take, drop, length-drop, drop-append-le, take-append-le}
+use Rattle.ground.specs.Kit.{_≡_, refl, sym, ap, _∙_, Bool, true, false, cond, not, _&&_, or-false, true≢false, false≢true, List, _++_, ℕ, _<_, _≤_, arith, eqb, length, drop}
 use Rattle.record.specs.declared.{Record.Record}
 use Rattle.player.specs.declared.{Progress.Progress}
 use Rattle.house.specs.World.{World}
 use Rattle.drive.specs.Calls as call
 use Rattle.text.specs.Ink.{ink}
-use Rattle.text.proofs.Putting.{fits-whole, stays-in-line}
+use Rattle.text.proofs.Putting.{fits-first, stays-in-line}
 use Rattle.record.specs.Records.{recordOf}
 use Rattle.record.specs.Waiting.{enoughB}
 use Rattle.record.specs.Holding.{There, Holds}
 use Rattle.record.specs.declared.Record.the-variants.{Insert, Eject, Command, Feed, Pull, Bad}
-use Rattle.record.proofs.Waiting.{enough-tells, few-come}
+use Rattle.record.proofs.Waiting.{enough-tells, few-come, behind-header}
 use Rattle.record.proofs.Holding.{all-hold}
 use Rattle.ground.proofs.Truth.{neither}
 use Rattle.player.specs.Playing.{calledOf, saidOf}
@@ -50,9 +50,9 @@ uses-what-is-there w number script ended line =
 pub ends-in-line : EndsInLine
 unfolding playedOf
 ends-in-line w number script ended line =
-    by-ready w number script ended line (λ s. s .line .at ≤ length line)
-    (λ _. stays-in-line (ink 0 line) (lineOf number (saidOf w script (recordOf script))) (omega arith) .0)
-    (λ _. omega arith)
+    by-ready w number script ended line (λ s. (s .line .at ≤ length line) × (length (s .line .line) ≡ length line))
+    (λ _. stays-in-line (ink 0 line) (lineOf number (saidOf w script (recordOf script))) (omega arith))
+    (λ _. (omega arith, refl))
 
 pub whole-line : WholeLine
 unfolding playedOf
@@ -60,7 +60,7 @@ whole-line w number script ended line h =
     let text = lineOf number (saidOf w script (recordOf script)) in
     by-ready w number script ended line
     (λ s. s .waits ≡ false → s .line ≡ ink (length (text)) (text ++ drop (length text) line))
-    (λ _ _. fits-whole line (lineOf number (saidOf w script (recordOf script))) (let n = fits-line w number script in omega (arith, n, h)))
+    (λ _ _. fits-first line (lineOf number (saidOf w script (recordOf script))) (let n = fits-line w number script in omega (arith, n, h)))
     (λ _ e. absurd {0} (true≢false e))
 
 pub waits-for-few : WaitsForFew
@@ -68,17 +68,12 @@ unfolding playedOf
 waits-for-few w number script ended line =
     by-ready w number script ended line (λ s. s .waits ≡ true → length script < 516) (λ _ e. absurd (false≢true e)) (λ e _. few-come script (neither (enoughB script) (ended && not (eqb (length script) 0)) e .0))
 
--- the n bytes behind the header
-behind : (script more : List ℕ) (n : ℕ) → 4 + n ≤ length script → take n (drop 4 (script ++ more)) ≡ take n (drop 4 script)
-behind script more n h =
-    rw (drop-append-le 4 script more (omega arith), take-append-le n (drop 4 script) more (rw (length-drop 4 script) (omega arith)))
-
 -- a record that was told is played alike, whatever comes behind it
 pub alike : (w : World) (script more : List ℕ) (r : Record) → Holds r script → saidOf w (script ++ more) r ≡ saidOf w script r
 alike w script more (Insert number prot) h = refl
 alike w script more Eject h = refl
-alike w script more Command h = ap (λ (p : List ℕ). calledOf w (call.Command p)) (behind script more 12 (omega (arith, h .0 .1, h .1)))
-alike w script more (Feed n) h = ap (λ (p : List ℕ). calledOf w (call.Feed p)) (behind script more n (omega (arith, h .0 .1, h .1)))
+alike w script more Command h = ap (λ (p : List ℕ). calledOf w (call.Command p)) (behind-header script more 12 (omega (arith, h .0 .1, h .1)))
+alike w script more (Feed n) h = ap (λ (p : List ℕ). calledOf w (call.Feed p)) (behind-header script more n (omega (arith, h .0 .1, h .1)))
 alike w script more (Pull n) h = refl
 alike w script more Bad h = refl
 

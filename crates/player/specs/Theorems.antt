@@ -13,10 +13,10 @@ abbrev pub UsesWhatIsThere : Type 0
 UsesWhatIsThere = (w : World) (number : ℕ) (script : List ℕ) (ended : Bool) (line : List ℕ)
     → stepOf w number script ended line .bad ≡ false → stepOf w number script ended line .used ≤ length script
 
--- a line ends within what was lent for it
+-- a line ends within what was lent for it, which is as long as it was
 abbrev pub EndsInLine : Type 0
 EndsInLine = (w : World) (number : ℕ) (script : List ℕ) (ended : Bool) (line : List ℕ)
-    → stepOf w number script ended line .line .at ≤ length line
+    → let i = stepOf w number script ended line .line in (i .at ≤ length line) × (length (i .line) ≡ length line)
 
 -- 1,100 bytes hold every line whole
 abbrev pub WholeLine : Type 0

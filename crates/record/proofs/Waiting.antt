@@ -1,5 +1,5 @@
 -- A record that can be told stays the same whatever comes behind it. Assumes nothing.
-use Rattle.ground.specs.Kit.{_≡_, refl, Bool, true, false, cond, _&&_, _||_, and-false, or-true, _⊎_, inl, inr, ⊎-elim, List, _++_, ℕ, _<_, _≤_, arith, leb-true, leb-false, ltb-true, ltb-false, le-leb, lt-leb, lt-ltb, leb, ltb, length, length-append, List·getD-append}
+use Rattle.ground.specs.Kit.{_≡_, refl, Bool, true, false, cond, _&&_, _||_, and-false, or-true, _⊎_, inl, inr, ⊎-elim, List, _++_, ℕ, _+_, _<_, _≤_, arith, leb-true, leb-false, ltb-true, ltb-false, le-leb, lt-leb, lt-ltb, leb, ltb, length, take, drop, length-append, length-drop, drop-append-le, take-append-le, List·getD-append}
 use Rattle.record.specs.declared.{Record.Record}
 use Rattle.ground.specs.Bytes.{byteAt, little}
 use Rattle.ground.proofs.Truth.{both, neither}
@@ -102,3 +102,8 @@ few-come bytes e = here (leb 4 (length bytes)) refl e
         let n = lengthField bytes in
         let (cut, short) = neither (leb n (length bytes)) (ltb 516 n) g in
         omega (arith, leb-false n (length bytes) cut, ltb-false 516 n short)
+
+-- the n bytes behind the header
+pub behind-header : (bytes more : List ℕ) (n : ℕ) → 4 + n ≤ length bytes → take n (drop 4 (bytes ++ more)) ≡ take n (drop 4 bytes)
+behind-header bytes more n h =
+    rw (drop-append-le 4 bytes more (omega arith), take-append-le n (drop 4 bytes) more (rw (length-drop 4 bytes) (omega arith)))

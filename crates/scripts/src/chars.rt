@@ -109,14 +109,6 @@ fn start_expected(scan: Scan) -> Scan {
     after
 }
 
-// What is printed has small digits.
-fn folded(verb: u8, c: u8) -> u8 {
-    match c {
-        b'A'..=b'F' => { if verb == verbs::EXPECTED { c + 32 } else { c } }
-        _ => c,
-    }
-}
-
 // A byte that is neither blank nor the end of a line.
 fn mark(scan: Scan, c: u8, word: &mut [u8]) -> Scan {
     let begins = (scan.verb == verbs::NOTHING) & (scan.word == 0);
@@ -126,7 +118,7 @@ fn mark(scan: Scan, c: u8, word: &mut [u8]) -> Scan {
     if begins & (c == b'>') {
         return start_expected(scan);
     }
-    letter(scan, folded(scan.verb, c), word)
+    letter(scan, c, word)
 }
 
 fn in_comment(scan: Scan) -> Scan {
@@ -198,7 +190,8 @@ pub(crate) fn take(
     here.length = 0;
     here.cr = c == b'\r';
     if scan.cr & (c != b'\n') {
-        return faults::lone_cr(scan);
+        here.column = scan.column;
+        return faults::lone_cr(here);
     }
     take_inside(here, c, word, record, expected)
 }

@@ -1,14 +1,36 @@
 // What records must print, and what comes of it.
 use crate::Script;
 
+// What is printed has small digits.
+fn small(c: u8) -> u8 {
+    match c {
+        b'A'..=b'F' => c + 32,
+        _ => c,
+    }
+}
+
+fn is_as(line: &[u8], expected: &[u8]) -> bool {
+    if line.len() != expected.len() {
+        return false;
+    }
+    let mut i = 0;
+    while i < line.len() {
+        if line[i] != small(expected[i]) {
+            return false;
+        }
+        i += 1;
+    }
+    true
+}
+
 // A printed line is expected whole, or without its number.
 fn agrees(line: &[u8], expected: &[u8]) -> bool {
     let space = bytes::scan::find(line, 0, line.len(), b' ');
-    if check::same(line, expected) {
+    if is_as(line, expected) {
         return true;
     }
     if space < line.len() {
-        check::same(&line[space + 1..], expected)
+        is_as(&line[space + 1..], expected)
     } else {
         false
     }
@@ -92,11 +114,33 @@ pub(crate) fn judge(
     after
 }
 
-// The last line, where anything was expected; whether all could be printed.
-pub(crate) fn sum_up(script: Script, first: &[u8]) -> bool {
-    if (script.passed == 0) & (script.failed == 0) {
+// Bad records that no line expects, where nothing else tells them from the others.
+fn tell_unexpected(script: Script, expects: bool) -> bool {
+    if (script.unexpected == 0) | !(expects | script.quiet) {
         return true;
     }
+    let mut line = [0u8; 64];
+    let number = text::put_all(&mut line, b"bad records that no line expects: ", 0);
+    let end = text::put_decimal(&mut line, number, script.unexpected);
+    let whole = text::put(&mut line, end, b'\n');
+    let n = ground::least(whole, line.len());
+    shell::print(b"scripts", &line[..n])
+}
+
+// What was not as expected, and the sum, where anything was; whether all could be printed.
+pub(crate) fn sum_up(script: Script, first: &[u8]) -> bool {
+    let expects = (0 < script.passed) | (0 < script.failed);
+    if !tell_unexpected(script, expects) {
+        return false;
+    }
+    if expects {
+        tell_sum(script, first)
+    } else {
+        true
+    }
+}
+
+fn tell_sum(script: Script, first: &[u8]) -> bool {
     let mut line = [0u8; 64];
     let passed = text::put_decimal(&mut line, 0, script.passed);
     let comma = text::put_all(&mut line, b" passed, ", passed);

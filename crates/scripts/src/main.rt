@@ -1,7 +1,4 @@
-// Plays scripts that are written as text, each record as soon as it is complete, and compares its line with the one that the text expects.
-//
-// The first word of a line says what it is: `=` a title, which starts a script anew, `>` what the record before it must print, a record or a
-// command by its name, or else the bytes of a record. README, "Scripts as text", has them all.
+// Plays scripts that are written as text (README, "Scripts as text"), and compares the lines of their records with those that the text expects.
 mod acts;
 mod bytes_of;
 mod chars;
@@ -15,9 +12,6 @@ mod words;
 use shell::Input;
 use shell::Options;
 use state::State;
-
-// A printed line with its explanation.
-const LINE_BYTES: usize = 1300;
 
 // One word holds the bytes of a pull.
 const WORD_BYTES: usize = 1100;
@@ -36,7 +30,7 @@ type Word = [u8; WORD_BYTES];
 
 type Expected = [u8; EXPECTED_BYTES];
 
-type Line = [u8; LINE_BYTES];
+type Line = [u8; explain::LINE_BYTES];
 
 type First = [u8; FIRST_BYTES];
 
@@ -97,6 +91,8 @@ pub(crate) struct Script {
     // how many bytes the last record's line has, 0 where there is none to compare, and whether that record was bad
     said: usize,
     bad: bool,
+    // that record was of bytes, and not said by its name
+    raw: bool,
     passed: u64,
     failed: u64,
     // bad records that no line expects
@@ -146,6 +142,7 @@ fn first_script(options: Options) -> Script {
         state: drive::power_on(),
         said: 0,
         bad: false,
+        raw: false,
         passed: 0,
         failed: 0,
         unexpected: 0,
@@ -184,6 +181,7 @@ fn act(
 ) -> Script {
     let what = scan.act;
     match what {
+        acts::BEGIN => records::begun(script),
         acts::ADD => records::add(script, scan.byte, scan.times, record, line, buffer, disc),
         acts::PLAY => records::named(script, scan.length, record, line, buffer, disc),
         acts::CUT => records::cut(script, record, line, buffer, disc),
@@ -338,7 +336,7 @@ fn play(input: Input, name: &[u8], options: Options) {
     let mut room = [0u8; READ_BYTES];
     let mut word = [0u8; WORD_BYTES];
     let mut record = [0u8; record::RECORD_BYTES];
-    let mut line = [0u8; LINE_BYTES];
+    let mut line = [0u8; explain::LINE_BYTES];
     let mut expected = [0u8; EXPECTED_BYTES];
     let mut first = [0u8; FIRST_BYTES];
     let mut buffer = [0u8; disc::BUFFER_BYTES];

@@ -4,7 +4,7 @@ use crate::Disc;
 use crate::Script;
 use player::Progress;
 
-// The script after a record: its line has so many bytes and a line feed.
+// The script after a record.
 fn after(script: Script, step: Progress) -> Script {
     let state = step.state;
     let mut next = script;
@@ -34,16 +34,6 @@ pub(crate) fn show_first(script: Script, text: &[u8], bytes: usize) -> Script {
     show(script, &text[..n])
 }
 
-// How much of the line is to be printed: with its explanation, if it is asked for.
-fn explained(script: Script, step: Progress, record: &[u8], line: &mut [u8]) -> usize {
-    let sense = step.state.host.sense;
-    if script.explain {
-        explain::put_explained(line, step.length, record, step.house, sense, step.count)
-    } else {
-        step.length
-    }
-}
-
 // Plays what there is of a record, if it can be told from that.
 fn play(
     script: Script,
@@ -60,7 +50,10 @@ fn play(
     if step.waits {
         return script;
     }
-    let n = ground::least(explained(script, step, part, line), line.len());
+    let n = ground::least(
+        turns::put_words(script.explain, step, part, line),
+        line.len(),
+    );
     show(after(script, step), &line[..n])
 }
 
@@ -90,7 +83,15 @@ fn add_one(
 ) -> Script {
     let mut next = script;
     next.have = text::put(record, script.have, byte);
+    next.raw = true;
     play(next, false, record, line, buffer, disc)
+}
+
+// Another record is begun: what the one before printed is not its line.
+pub(crate) fn begun(script: Script) -> Script {
+    let mut next = script;
+    next.said = 0;
+    next
 }
 
 // The record that a line said by its name is there whole.
@@ -102,8 +103,9 @@ pub(crate) fn named(
     buffer: &mut [u8],
     disc: &mut [u8],
 ) -> Script {
-    let mut next = script;
+    let mut next = begun(script);
     next.have = length;
+    next.raw = false;
     cut(next, record, line, buffer, disc)
 }
 
@@ -125,6 +127,11 @@ pub(crate) fn start(
     next
 }
 
+// Bytes that are not played belong to the bad record before them, if that one was of bytes too.
+fn passed_over(script: Script) -> Script {
+    if script.raw { script } else { begun(script) }
+}
+
 // A byte of a record, so many times.
 pub(crate) fn add(
     script: Script,
@@ -140,7 +147,7 @@ pub(crate) fn add(
     while 0 < left {
         left -= 1;
         if !(next.on & next.playing) {
-            return next;
+            return passed_over(next);
         }
         next = add_one(next, byte, record, line, buffer, disc);
     }

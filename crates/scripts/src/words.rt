@@ -1,6 +1,7 @@
 // The words of a line, and the record that they say.
 use crate::Record;
 use crate::Scan;
+use crate::acts;
 use crate::bytes_of;
 use crate::faults;
 use crate::names;
@@ -125,6 +126,7 @@ fn begin(scan: Scan, record: &mut Record, verb: u8, code: u8) -> Scan {
     *record = [0; record::RECORD_BYTES];
     text::put(record, HEADER_BYTES, code);
     let mut after = scan;
+    after.act = acts::BEGIN;
     after.verb = verb;
     after.code = code;
     after

@@ -1,6 +1,6 @@
 // What a program shares with the shell that starts it: its arguments, its input, what it says of trouble, and its exit status.
-ghost use Rattle.ground.specs.Kit.{length};
-ghost use Rattle.shell.specs.Arguments.{Within};
+ghost use Rattle.ground.specs.Kit.{_≡_, length};
+ghost use Rattle.shell.specs.Arguments.{Within, optionB, withFile, withOption, withWord};
 use libc::STDERR_FILENO;
 use libc::STDIN_FILENO;
 use libc::STDOUT_FILENO;
@@ -106,14 +106,15 @@ pub fn given(i: usize, room: &mut [u8]) -> Argument
 }
 
 // `-` alone is a file's name: standard input's.
-fn is_option(word: &[u8]) -> bool {
-    if word.len() < 2 {
-        return false;
-    }
-    word[0] == b'-'
+fn is_option(word: &[u8]) -> bool
+    ensures { λ r. ⌜ r ≡ optionB (now (word .entry)) ⌝ }
+{
+    (2 <= word.len()) & (ground::byte(word, 0) == b'-')
 }
 
-fn with_file(options: Options, i: usize) -> Options {
+fn with_file(options: Options, i: usize) -> Options
+    ensures { λ r. ⌜ r ≡ withFile options i ⌝ }
+{
     Options {
         wrong: options.wrong | (options.file != 0),
         explain: options.explain,
@@ -122,7 +123,9 @@ fn with_file(options: Options, i: usize) -> Options {
     }
 }
 
-fn with_option(options: Options, word: &[u8]) -> Options {
+fn with_option(options: Options, word: &[u8]) -> Options
+    ensures { λ r. ⌜ r ≡ withOption options (now (word .entry)) ⌝ }
+{
     let explain = check::same(word, b"--explain");
     let quiet = check::same(word, b"--quiet");
     Options {
@@ -133,18 +136,23 @@ fn with_option(options: Options, word: &[u8]) -> Options {
     }
 }
 
+fn with_word(options: Options, i: usize, word: &[u8]) -> Options
+    ensures { λ r. ⌜ r ≡ withWord options i (now (word .entry)) ⌝ }
+{
+    if is_option(word) {
+        with_option(options, word)
+    } else {
+        with_file(options, i)
+    }
+}
+
+// Of an argument that is too long the room has the first bytes.
 fn with_argument(options: Options, i: usize, room: &mut [u8]) -> Options {
     let told = given(i, room);
     match told {
-        Argument::Given(n) => {
-            if is_option(&room[..n]) {
-                with_option(options, &room[..n])
-            } else {
-                with_file(options, i)
-            }
-        }
+        Argument::Given(n) => with_word(options, i, &room[..n]),
         Argument::Missing => options,
-        Argument::TooLong => with_file(options, i),
+        Argument::TooLong => with_word(options, i, room),
     }
 }
 

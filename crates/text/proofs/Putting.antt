@@ -38,9 +38,11 @@ puts (x ∷ xs) at line h =
     rw (lt-ltb at (length line) (omega arith), add-one at, next) (puts xs (suc at) (set line at x) (rw (length-set line at x) (omega arith)))
 
 pub fits-whole : FitsWhole
-fits-whole line text h =
-    let room : 0 + length text ≤ length line = omega arith in
-    rw (puts text 0 line room, sets-eq text line 0 room, zero-add (length text))
+fits-whole at line text h = rw (puts text at line h, sets-eq text line at h)
+
+-- at the start of the line
+pub fits-first : (line text : List ℕ) → length text ≤ length line → putAll (ink 0 line) text ≡ ink (length text) (text ++ drop (length text) line)
+fits-first line text h = rw (fits-whole 0 line text (omega arith), zero-add (length text))
 
 one-stays : (i : Ink) (b : ℕ) → i .at ≤ length (i .line)
     → (putByte i b .at ≤ length (i .line)) × (length (putByte i b .line) ≡ length (i .line))

@@ -1,5 +1,5 @@
 -- Text put into a line of a fixed length, byte after byte.
-use Rattle.ground.specs.Kit.{_≡_, cond, List, [], _∷_, _++_, ℕ, _+_, _≤_, ltb, length, set, drop}
+use Rattle.ground.specs.Kit.{_≡_, cond, List, [], _∷_, _++_, ℕ, _+_, _≤_, ltb, length, set, take, drop}
 
 -- the place of the next byte, and the line's bytes
 pub record Ink : Type 0 where
@@ -17,9 +17,10 @@ unfoldable pub putAll : Ink → List ℕ → Ink
 putAll i [] = i
 putAll i (b ∷ bs) = putAll (putByte i b) bs
 
--- a text that fits stands at the start of the line, the rest of the line as it was
+-- a text that fits stands at its place, the rest of the line as it was
 abbrev pub FitsWhole : Type 0
-FitsWhole = (line text : List ℕ) → length text ≤ length line → putAll (ink 0 line) text ≡ ink (length text) (text ++ drop (length text) line)
+FitsWhole = (at : ℕ) (line text : List ℕ) → at + length text ≤ length line
+    → putAll (ink at line) text ≡ ink (at + length text) (take at line ++ text ++ drop (at + length text) line)
 
 -- putting never leaves the line, and keeps its length
 abbrev pub StaysInLine : Type 0

@@ -1,4 +1,4 @@
--- A number that a text says: "digits only; anything else, an empty text or a number too large is 'no number'".
+-- A number that a text says: of digits only; any other text, an empty one and a number too large say none.
 use Rattle.ground.specs.Kit.{_≡_, Bool, cond, _&&_, List, [], _∷_, ℕ, _+_, _-_, _*_, _^_, _<_, eqb, leb, ltb, length}
 use Rattle.text.specs.declared.{Numeral.Numeral}
 use Rattle.text.specs.declared.Numeral.the-variants.{Of, NoNumber}

@@ -61,7 +61,7 @@ pub fn put_hexes(line: &mut [u8], bytes: &[u8], at: usize) -> usize
 fn put_plain_byte(line: &mut [u8], at: usize, b: u8) -> usize
     ensures { λ r. ⌜ ink r (now (line .exit)) ≡ putAll (ink at (now (line .entry))) (plainByte b) ⌝ }
 {
-    if (32 <= b) & (b <= 126) {
+    if (32 <= b) & (b <= 126) & (b != 92) {
         return put(line, at, b);
     }
     let next = put_all(line, b"\\x", at);

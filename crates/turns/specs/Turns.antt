@@ -6,8 +6,10 @@ use lib.IntN.{ℤ, pos}
 use lib.Signed.{leZ}
 use Rattle.state.specs.States.{powerOn}
 use Rattle.house.specs.World.{world}
-use Rattle.window.specs.Windows.{Held, held, unread, openedOf, usedOf, withinOf, toFrontOf}
+use Rattle.window.specs.Windows.{unread, openedOf, usedOf, withinOf, dueOf, settledOf}
 use Rattle.window.specs.Windows as windows
+use Rattle.text.specs.Ink.{Ink, ink, putAll}
+use Rattle.explain.specs.Explaining.{explainedText}
 use Rattle.player.specs.Steps.{Stepped, stepOf}
 
 -- "record number from 1", from power-on; a read is due
@@ -20,10 +22,7 @@ startOf =
       window = openedOf;
       number = 1;
       state = powerOn;
-      first = 0;
       length = 0;
-      house = 0;
-      count = 0;
     }
 
 -- the number of the next record: no run gets as far as the last number of 64 bits
@@ -34,24 +33,31 @@ nextOf waits number = cond waits number (min (number + 1) (2 ^ 64 - 1))
 abbrev pub doneOf : Bool → ℕ → ℕ
 doneOf bad used = cond bad 0 used
 
--- where a read is due the unread bytes go to the front of the room
-abbrev pub settledOf : Window → Bool → List ℕ → Held
-settledOf window due room = cond due (toFrontOf window room) (held window room)
+-- the words of a record behind its line, in the place of the line feed, if they are asked for
+unfoldable pub wordedLine : Bool → List ℕ → Stepped → Ink
+wordedLine explain bytes s =
+    cond (not (s .waits) && explain)
+    (putAll (ink (s .line .at - 1) (s .line .line)) (explainedText bytes (s .house) (s .world .state .host .sense) (s .count)))
+    (s .line)
 
--- the run after a step on the bytes from `first` on; "and the run stops"
-abbrev pub runOf : Stepped → Bool → Window → ℕ → ℕ → Run
-runOf s ended window first number =
+-- the same step with that line
+abbrev pub inLine : Stepped → Ink → Stepped
+inLine s i = record { waits = s .waits; bad = s .bad; used = s .used; line = i; house = s .house; count = s .count; world = s .world }
+
+abbrev pub worded : Bool → List ℕ → Stepped → Stepped
+worded explain bytes s = inLine s (wordedLine explain bytes s)
+
+-- the run after a step with a line of that length: "and the run stops" at a bad record, and where it waits and no read is due
+abbrev pub runOf : Stepped → ℕ → Bool → Window → ℕ → Run
+runOf s length due window number =
     record {
-      on = not (s .bad || (s .waits && ended));
-      due = s .waits && not ended;
+      on = not (s .bad || (s .waits && not due));
+      due = due;
       bad = s .bad;
       window = window;
       number = nextOf (s .waits) number;
       state = s .world .state;
-      first = first;
-      length = s .line .at;
-      house = s .house;
-      count = s .count;
+      length = length;
     }
 
 -- a run with all that it was lent
@@ -68,14 +74,16 @@ turned run room buffer disc line = record { run = run; room = room; buffer = buf
 -- what a step leaves that saw the unread bytes of a window within the room
 abbrev pub leftBy : Window → List ℕ → ℕ → Stepped → Turned
 leftBy window room number s =
-    let front = settledOf (usedOf window (doneOf (s .bad) (s .used))) (s .waits && not (window .ended)) room in
-    turned (runOf s (window .ended) (front .window) (window .from) number) (front .room) (s .world .buffer) (s .world .disc) (s .line .line)
+    let due = dueOf window (s .waits) in
+    let front = settledOf (usedOf window (doneOf (s .bad) (s .used))) due room in
+    turned (runOf s (s .line .at) due (front .window) number) (front .room) (s .world .buffer) (s .world .disc) (s .line .line)
 
-unfoldable pub turnOf : Run → List ℕ → List ℕ → List ℕ → List ℕ → Turned
-turnOf run room buffer disc line =
+unfoldable pub turnOf : Run → Bool → List ℕ → List ℕ → List ℕ → List ℕ → Turned
+turnOf run explain room buffer disc line =
     let window = withinOf (run .window) room in
+    let bytes = unread window room in
     leftBy window room (run .number)
-    (stepOf (world (run .state) buffer disc) (run .number) (unread window room) (window .ended) line)
+    (worded explain bytes (stepOf (world (run .state) buffer disc) (run .number) bytes (window .ended) line))
 
 -- after a read: none is due any more, and one that failed stops the run
 abbrev pub cameOf : Run → ℤ → List ℕ → Run
@@ -87,8 +95,5 @@ cameOf run got room =
       window = windows.cameOf (run .window) got room;
       number = run .number;
       state = run .state;
-      first = run .first;
       length = run .length;
-      house = run .house;
-      count = run .count;
     }

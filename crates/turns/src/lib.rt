@@ -1,8 +1,8 @@
 // The bench player's loop, a turn at a time: the program only reads and writes.
 ghost use Rattle.ground.specs.Kit.{_≡_, []};
-ghost use Rattle.window.specs.Windows.{held};
+ghost use Rattle.text.specs.Ink.{ink};
 ghost use Rattle.player.specs.Steps.{stepped};
-ghost use Rattle.turns.specs.Turns.{startOf, nextOf, doneOf, settledOf, runOf, turned, turnOf, cameOf};
+ghost use Rattle.turns.specs.Turns.{startOf, nextOf, doneOf, wordedLine, runOf, turned, turnOf, cameOf};
 use player::Progress;
 use state::State;
 use window::Window;
@@ -18,13 +18,8 @@ pub struct Run {
     // of the next record
     pub number: u64,
     pub state: State,
-    // where in the room the record stands that was played in this turn
-    pub first: usize,
-    // how many bytes its line has, 0 where it waited
+    // how many bytes the line has of the record that was played in this turn, 0 where it waited
     pub length: usize,
-    // the paper's house number, and how many bytes a feed took or a pull gave
-    pub house: u8,
-    pub count: usize,
 }
 
 // From power-on, before anything was read.
@@ -40,10 +35,7 @@ pub fn start() -> Run
         window: window,
         number: 1,
         state: state,
-        first: 0,
         length: 0,
-        house: 0,
-        count: 0,
     }
 }
 
@@ -68,40 +60,44 @@ fn done(bad: bool, used: usize) -> usize
     if bad { 0 } else { used }
 }
 
-// Where a read is due, the unread bytes go to the front of the room.
-fn settled(window: Window, due: bool, room: &mut [u8]) -> Window
-    ensures { λ r. ⌜ held r (now (room .exit)) ≡ settledOf window due (now (room .entry)) ⌝ }
+// The words of a step on these bytes go behind its line, if they are asked for; how long the line then is.
+pub fn put_words(explain: bool, step: Progress, bytes: &[u8], line: &mut [u8]) -> usize
+    ensures { λ r. ⌜ ink r (now (line .exit)) ≡ wordedLine explain (now (bytes .entry)) (stepped step (now (line .entry)) [] []) ⌝ }
 {
-    if due {
-        window::to_front(window, room)
-    } else {
-        window
+    if step.waits | !explain {
+        return step.length;
     }
+    let sense = step.state.host.sense;
+    explain::put_explained(line, step.length, bytes, step.house, sense, step.count)
 }
 
-// The run after a step on the bytes from `first` on.
-fn run_of(step: Progress, ended: bool, window: Window, first: usize, number: u64) -> Run
-    ensures { λ r. ⌜ r ≡ runOf (stepped step [] [] []) ended window first number ⌝ }
+// The run after a step with a line of that length: one that waits where no read is due is over.
+fn run_of(step: Progress, length: usize, due: bool, window: Window, number: u64) -> Run
+    ensures { λ r. ⌜ r ≡ runOf (stepped step [] [] []) length due window number ⌝ }
 {
     let state = step.state;
     Run {
-        on: !(step.bad | (step.waits & ended)),
-        due: step.waits & !ended,
+        on: !(step.bad | (step.waits & !due)),
+        due: due,
         bad: step.bad,
         window: window,
         number: next_number(step.waits, number),
         state: state,
-        first: first,
-        length: step.length,
-        house: step.house,
-        count: step.count,
+        length: length,
     }
 }
 
 // One record more is played, if it can be told from the unread bytes.
-pub fn turn(run: Run, room: &mut [u8], buffer: &mut [u8], disc: &mut [u8], line: &mut [u8]) -> Run
+pub fn turn(
+    run: Run,
+    explain: bool,
+    room: &mut [u8],
+    buffer: &mut [u8],
+    disc: &mut [u8],
+    line: &mut [u8],
+) -> Run
     ensures { λ r. ⌜ turned r (now (room .exit)) (now (buffer .exit)) (now (disc .exit)) (now (line .exit))
-        ≡ turnOf run (now (room .entry)) (now (buffer .entry)) (now (disc .entry)) (now (line .entry)) ⌝ }
+        ≡ turnOf run explain (now (room .entry)) (now (buffer .entry)) (now (disc .entry)) (now (line .entry)) ⌝ }
 {
     let before = run.window;
     let window = window::within(before, room);
@@ -118,9 +114,11 @@ pub fn turn(run: Run, room: &mut [u8], buffer: &mut [u8], disc: &mut [u8], line:
         disc,
         line,
     );
+    let length = put_words(explain, step, &room[from..upto], line);
     let left = window::used(window, done(step.bad, step.used));
-    let after = settled(left, step.waits & !ended, room);
-    run_of(step, ended, after, from, run.number)
+    let due = window::is_due(window, step.waits);
+    let after = window::settled(left, due, room);
+    run_of(step, length, due, after, run.number)
 }
 
 // After a read that was due; one that failed stops the run.
@@ -137,9 +135,6 @@ pub fn came(run: Run, got: isize, room: &[u8]) -> Run
         window: after,
         number: run.number,
         state: state,
-        first: run.first,
         length: run.length,
-        house: run.house,
-        count: run.count,
     }
 }

@@ -3,3 +3,4 @@ pub mod Moving
 pub mod Windows
 pub mod Holding
 pub mod Streams
+pub mod Loops

@@ -1,6 +1,6 @@
 -- In whatever parts the bytes come, the same is said of them. Assumes nothing.
-use Rattle.ground.specs.Kit.{_≡_, refl, sym, ap, _∙_, Bool, true, false, cond, false≢true, true≢false, List, [], _∷_, _++_, append-nil, append-assoc, ℕ, zero, suc, _+_, _-_, _<_, _≤_, min, arith, eqb-true, eqb-false, eqb, length, take, drop, getD, length-append, length-take, length-drop, take-append-drop, drop-append-seam, drop-append-le}
-use Rattle.window.specs.Streams.{Turn, Machine, saysFrom, brings, reading, Steady, AnyParts}
+use Rattle.ground.specs.Kit.{_≡_, refl, sym, ap, _∙_, Bool, true, false, cond, not, false≢true, true≢false, List, [], _∷_, _++_, append-nil, append-assoc, ℕ, zero, suc, _+_, _-_, _<_, _≤_, min, arith, eqb-true, eqb-false, eqb, length, take, drop, getD, length-append, length-take, length-drop, take-append-drop, drop-append-seam, drop-append-le}
+use Rattle.window.specs.Streams.{Turn, Machine, Closing, saysFrom, brings, reading, Steady, AnyParts}
 
 -- the first bytes of an input and those behind them
 whole : (n : ℕ) (bytes : List ℕ) → take n bytes ++ drop (length (take n bytes)) bytes ≡ bytes
@@ -20,14 +20,14 @@ record Enough (n k : ℕ) (unread : List ℕ) (ended : Bool) (coming : List ℕ)
   turns : length unread + length (rest ended coming) + length (rest ended coming) + cond ended 0 1 < n
   bound : length unread + length (rest ended coming) ≤ k
 
-module _ {S : Type 0} (step : Machine S) (room : ℕ) (steady : Steady step room) where
+module _ {S : Type 0} (step : Machine S) (closes : Closing S) (room : ℕ) (steady : Steady step room) where
   -- so many turns say what the definition says, where the next waits or not
   abbrev Says : ℕ → Bool → Type 0
   Says n waits = (k : ℕ) (s : S) (unread : List ℕ) (ended : Bool) (coming parts : List ℕ) → Enough n k unread ended coming
       → step s unread ended .waits ≡ waits
-      → reading step room n s unread ended coming parts ≡ saysFrom step k s (unread ++ rest ended coming)
+      → reading step closes room n s unread ended coming parts ≡ saysFrom step closes k s (unread ++ rest ended coming)
 
-  none : (k : ℕ) (s : S) → [] ≡ saysFrom step k s []
+  none : (k : ℕ) (s : S) → closes false s ≡ saysFrom step closes k s []
   none zero s = refl
   none (suc k) s = rw (steady .none s true)
 
@@ -48,10 +48,10 @@ module _ {S : Type 0} (step : Machine S) (room : ℕ) (steady : Steady step room
       where
         on : (unread : List ℕ) (ended : Bool) → Enough (suc n) k unread ended coming → step s unread ended .waits ≡ true
             → let more = brings (room - length unread) (getD parts 0 0) coming in
-            cond ended [] (reading step room n s (unread ++ more) (eqb (length more) 0) (drop (length more) coming) (drop 1 parts))
-            ≡ saysFrom step k s (unread ++ rest ended coming)
+            cond (not ended) (reading step closes room n s (unread ++ more) (eqb (length more) 0) (drop (length more) coming) (drop 1 parts)) (closes false s)
+            ≡ saysFrom step closes k s (unread ++ rest ended coming)
         on [] true h e = none k s
-        on (x ∷ xs) true h e = absurd (false≢true (sym (steady .last s (x ∷ xs) (omega arith)) ∙ e))
+        on (x ∷ xs) true h e = absurd (false≢true (sym (steady .tells s (x ∷ xs) (omega arith)) ∙ e))
         on unread false h e = reads (eqb (length more) 0) refl
           where
             m : ℕ
@@ -61,7 +61,7 @@ module _ {S : Type 0} (step : Machine S) (room : ℕ) (steady : Steady step room
             more = take m coming
 
             reads : (b : Bool) → eqb (length more) 0 ≡ b
-                → reading step room n s (unread ++ more) b (drop (length more) coming) (drop 1 parts) ≡ saysFrom step k s (unread ++ coming)
+                → reading step closes room n s (unread ++ more) b (drop (length more) coming) (drop 1 parts) ≡ saysFrom step closes k s (unread ++ coming)
             reads true z =
                 let few = steady .few s unread false e in
                 let long = length-take m coming in
@@ -71,7 +71,7 @@ module _ {S : Type 0} (step : Machine S) (room : ℕ) (steady : Steady step room
                 rw (empty more zero, empty coming (omega (arith, few, long, zero)), append-nil (unread ++ [])) in
                 after _ k s (unread ++ more) true (drop (length more) coming) (drop 1 parts)
                 (record { turns = omega (arith, few, long, front, zero, h .turns); bound = omega (arith, few, long, front, zero, h .bound) }) refl
-                ∙ ap (saysFrom step k s) ends
+                ∙ ap (saysFrom step closes k s) ends
             reads false z =
                 let front = length-append unread more in
                 let back = length-drop (length more) coming in
@@ -79,7 +79,7 @@ module _ {S : Type 0} (step : Machine S) (room : ℕ) (steady : Steady step room
                 let some = eqb-false (length more) 0 z in
                 after _ k s (unread ++ more) false (drop (length more) coming) (drop 1 parts)
                 (record { turns = omega (arith, front, back, long, some, h .turns); bound = omega (arith, front, back, long, h .bound) }) refl
-                ∙ ap (saysFrom step k s) (append-assoc unread more (drop (length more) coming) ∙ ap (λ (l : List ℕ). unread ++ l) (whole m coming))
+                ∙ ap (saysFrom step closes k s) (append-assoc unread more (drop (length more) coming) ∙ ap (λ (l : List ℕ). unread ++ l) (whole m coming))
 
     -- a record, and then what follows
     first-takes : Says (suc n) false
@@ -91,8 +91,8 @@ module _ {S : Type 0} (step : Machine S) (room : ℕ) (steady : Steady step room
         t = step s unread ended
 
         on : (b : Bool) → t .stops ≡ b
-            → cond b [] (reading step room n (t .next) (drop (t .used) unread) ended coming parts)
-            ≡ cond b [] (saysFrom step k (t .next) (drop (t .used) (unread ++ rest ended coming)))
+            → cond b (closes true (t .next)) (reading step closes room n (t .next) (drop (t .used) unread) ended coming parts)
+            ≡ cond b (closes true (t .next)) (saysFrom step closes k (t .next) (drop (t .used) (unread ++ rest ended coming)))
         on true _ = refl
         on false goes =
             let (some, there) = steady .uses s unread ended e goes in
@@ -107,6 +107,6 @@ module _ {S : Type 0} (step : Machine S) (room : ℕ) (steady : Steady step room
   says (suc n) true = first-waits n (says n)
   says (suc n) false = first-takes n (says n)
 
-pub any-parts : {S : Type 0} (step : Machine S) (room : ℕ) → AnyParts step room
-any-parts step room steady s input parts n h =
-    says step room steady n _ (length input) s [] false input parts (record { turns = omega (arith, h); bound = omega arith }) refl
+pub any-parts : {S : Type 0} (step : Machine S) (closes : Closing S) (room : ℕ) → AnyParts step closes room
+any-parts step closes room steady s input parts n h =
+    says step closes room steady n _ (length input) s [] false input parts (record { turns = omega (arith, h); bound = omega arith }) refl

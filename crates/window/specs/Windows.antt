@@ -1,5 +1,5 @@
 -- The window on bytes that come a part at a time: of a lent room, the bytes from `from` up to `upto` have come and are not yet used.
-use Rattle.ground.specs.Kit.{false, List, _++_, ℕ, _+_, _-_, min, length, take, drop}
+use Rattle.ground.specs.Kit.{Bool, false, cond, not, _&&_, List, _++_, ℕ, _+_, _-_, min, length, take, drop}
 use Rattle.window.specs.declared.{Window.Window}
 use lib.IntN.{ℤ, pos, negsuc}
 use lib.Signed.{leZ}
@@ -32,6 +32,14 @@ abbrev pub toFrontOf : Window → List ℕ → Held
 toFrontOf window room =
     let bytes = unread window room in
     held (record { from = 0; upto = length bytes; ended = window .ended }) (bytes ++ drop (length bytes) room)
+
+-- where a record can't be told, and more may come, a read is due
+abbrev pub dueOf : Window → Bool → Bool
+dueOf window waits = waits && not (window .ended)
+
+-- where a read is due the unread bytes go to the front of the room
+abbrev pub settledOf : Window → Bool → List ℕ → Held
+settledOf window due room = cond due (toFrontOf window room) (held window room)
 
 -- how many bytes a read brought, by what it answered and how many there was room for: none where it failed
 abbrev pub broughtOf : ℤ → ℕ → ℕ

@@ -1,6 +1,6 @@
 // The window on bytes that come a part at a time.
 ghost use Rattle.ground.specs.Kit.{_≡_, _++_, _+_, _-_, _≤_, length, take, drop};
-ghost use Rattle.window.specs.Windows.{openedOf, usedOf, withinOf, held, toFrontOf, broughtOf, cameOf};
+ghost use Rattle.window.specs.Windows.{openedOf, usedOf, withinOf, held, toFrontOf, dueOf, settledOf, broughtOf, cameOf};
 use ground::least;
 
 // Of a lent room, the bytes from `from` up to `upto` have come and are not yet used.
@@ -75,6 +75,20 @@ pub fn to_front(window: Window, room: &mut [u8]) -> Window
         upto: count,
         ended: window.ended,
     }
+}
+
+// Where a record can't be told, and more may come, a read is due.
+pub fn is_due(window: Window, waits: bool) -> bool
+    ensures { λ r. ⌜ r ≡ dueOf window waits ⌝ }
+{
+    waits & !window.ended
+}
+
+// Where a read is due, the unread bytes go to the front of the room.
+pub fn settled(window: Window, due: bool, room: &mut [u8]) -> Window
+    ensures { λ r. ⌜ held r (now (room .exit)) ≡ settledOf window due (now (room .entry)) ⌝ }
+{
+    if due { to_front(window, room) } else { window }
 }
 
 // How many bytes a read brought that had room for so many.

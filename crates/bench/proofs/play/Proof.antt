@@ -13,10 +13,10 @@ abbrev μ-loop : tie.MeasureT-loop
 
 -- a turn leaves the window within the room
 there : tie.Need-refill-requires Inv-loop μ-loop
-there c _ = stays-within _ _ _ _ _ _ _ _ _ _ (c .before .before .before .before .before .before .before .before .before .before .before .turn .ensures) .0 .there
+there c _ = stays-within _ _ _ _ _ _ _ _ _ _ _ (c .before .before .before .before .before .before .before .before .before .turn .ensures) .0 .there
 
 some-turn : tie.Need-sub-left Inv-loop μ-loop
-some-turn c = ltb-true 0 _ (both _ _ (c .before .before .before .before .before .before .before .before .before .before .before .before .before .before .before .before .before .before .before .before .if1 .taken) .0)
+some-turn c = ltb-true 0 _ (both _ _ (c .before .before .before .before .before .before .before .before .before .before .before .before .before .before .before .before .before .before .if1 .taken) .0)
 
 pub play-spec : {M : Type 1} → statement M
 play-spec =
@@ -31,7 +31,6 @@ play-spec =
     (λ c. search needs)
     (λ c. search needs)
     (λ _ _. tt)
-    (λ c. search needs)
     (λ c. search needs)
     (λ _ _. tt)
     (λ c. search needs)

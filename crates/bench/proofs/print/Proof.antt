@@ -5,12 +5,4 @@ use Rattle.bench.proofs.print.Tie as tie
 pub print-spec : {M : Type 1} → statement M
 print-spec =
     tie.close
-    (tie.spec
-    (λ _ _. tt)
-    (λ _ _. tt)
-    (λ c. search needs)
-    (λ c. search needs)
-    (λ c. sym (length-take-le _ _ (search needs)))
-    (λ _ _. tt)
-    (λ c. search needs)
-    (λ c. search needs))
+    (tie.spec (λ _ _. tt) (λ c. search needs) (λ c. sym (length-take-le _ _ (search needs))) (λ _ _. tt) (λ c. search needs))

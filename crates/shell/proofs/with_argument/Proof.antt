@@ -3,7 +3,7 @@ use Rattle.shell.proofs.Giving.{given-within}
 use Rattle.shell.proofs.with_argument.Statement.{statement}
 use Rattle.shell.proofs.with_argument.Tie as tie
 
-there : tie.Need-slice-reshare-prefix-is-option
+there : tie.Need-slice-reshare-prefix-with-word
 there c = given-within _ _ _ (c .before .before .before .before .before .given .ensures) (c .before .told .given .1)
 
 pub with-argument-spec : {M : Type 1} → statement M
@@ -15,15 +15,9 @@ with-argument-spec =
     there
     (λ c. sym (length-take-le _ _ (there (c .before))))
     (λ _ _. tt)
-    (λ c. there (c .before .before .before))
-    (λ c. sym (length-take-le _ _ (there (c .before .before .before .before))))
-    (λ _ _. tt)
-    (λ _ _. tt)
     (λ c. search needs)
     (λ c. search needs)
     (λ _ _. tt)
-    (λ c. search needs)
-    (λ c. search needs)
     (λ c. search needs)
     (λ c. search needs)
     (λ c. search needs)

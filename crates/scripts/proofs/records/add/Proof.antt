@@ -16,6 +16,7 @@ add-spec =
     μ-loop
     (λ c. search needs)
     (λ c. search needs)
+    (λ _ _. tt)
     (λ c. search needs)
     (λ c. search needs)
     (λ c. search needs)

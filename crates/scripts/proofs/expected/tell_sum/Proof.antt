@@ -1,12 +1,11 @@
 use Rattle.ground.specs.Kit.{sym, needs, length-take-le}
-use Rattle.scripts.proofs.expected.sum_up.Statement.{statement}
-use Rattle.scripts.proofs.expected.sum_up.Tie as tie
+use Rattle.scripts.proofs.expected.tell_sum.Statement.{statement}
+use Rattle.scripts.proofs.expected.tell_sum.Tie as tie
 
-pub sum-up-spec : {M : Type 1} → statement M
-sum-up-spec =
+pub tell-sum-spec : {M : Type 1} → statement M
+tell-sum-spec =
     tie.close
     (tie.spec
-    (λ c. search needs)
     (λ c. search needs)
     (λ _ _. tt)
     (λ c. search needs)
