@@ -56,9 +56,10 @@ ejection-short house = one 54 (eqb house 0) _ _ (omega arith) (omega (arith, ref
 range-short : (from : BlockAddress) (count : ℕ) → length (rangeText from count) ≤ 57
 unfolding rangeText
 range-short from count =
+    let blocks = one 13 (eqb count 1) (text " block from ") (text " blocks from ") (omega arith) (omega arith) in
     one 57 (eqb count 0) _ _
     (simp length-append (omega (arith, few-digits (from .0))))
-    (simp length-append (omega (arith, few-digits count, few-digits (from .0))))
+    (simp length-append (omega (arith, few-digits count, blocks, few-digits (from .0))))
 
 called-short : (k : Known) (p : List ℕ) → length (calledBy k p) ≤ 79
 unfolding hexOf baseText

@@ -27,10 +27,13 @@ insertionText house number prot = text "disc " ++ decimalOf number ++ cond (eqb 
 unfoldable pub ejectionText : ℕ → List ℕ
 ejectionText house = cond (eqb house 0) (text "disc taken out") (text "ejection" ++ refusedText house)
 
+abbrev pub blocksText : ℕ → List ℕ
+blocksText count = cond (eqb count 1) (text " block from ") (text " blocks from ")
+
 -- a command of no blocks has an address alone
 unfoldable pub rangeText : BlockAddress → ℕ → List ℕ
 rangeText from count =
-    cond (eqb count 0) (text " at " ++ decimalOf (from .0)) (text " of " ++ decimalOf count ++ text " blocks from " ++ decimalOf (from .0))
+    cond (eqb count 0) (text " at " ++ decimalOf (from .0)) (text " of " ++ decimalOf count ++ blocksText count ++ decimalOf (from .0))
 
 -- the name, and the blocks of a command that asks check G
 unfoldable pub baseText : Rule → List ℕ → List ℕ

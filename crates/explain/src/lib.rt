@@ -13,7 +13,7 @@ use text::put_decimal;
 ghost use Rattle.ground.specs.Kit.{_≡_, _-_};
 ghost use Rattle.text.specs.Ink.{ink, putAll};
 ghost use Rattle.record.specs.Records.{recordOf};
-ghost use Rattle.explain.specs.Explaining.{refusedText, insertionText, ejectionText, rangeText, baseText, calledText, endedText, commandText, moveText, meaningOf, explainedText};
+ghost use Rattle.explain.specs.Explaining.{refusedText, insertionText, ejectionText, blocksText, rangeText, baseText, calledText, endedText, commandText, moveText, meaningOf, explainedText};
 
 // Long enough for every line of the player with its words.
 pub const LINE_BYTES: usize = 1300;
@@ -49,6 +49,15 @@ fn put_ejection(line: &mut [u8], at: usize, house: u8) -> usize
     put_all(line, b"disc taken out", at)
 }
 
+fn put_blocks(line: &mut [u8], at: usize, count: u32) -> usize
+    ensures { λ r. ⌜ ink r (now (line .exit)) ≡ putAll (ink at (now (line .entry))) (blocksText count) ⌝ }
+{
+    if count == 1 {
+        return put_all(line, b" block from ", at);
+    }
+    put_all(line, b" blocks from ", at)
+}
+
 // The blocks of a command; one of no blocks has an address alone.
 fn put_range(line: &mut [u8], at: usize, from: BlockAddress, count: u32) -> usize
     ensures { λ r. ⌜ ink r (now (line .exit)) ≡ putAll (ink at (now (line .entry))) (rangeText from count) ⌝ }
@@ -59,7 +68,7 @@ fn put_range(line: &mut [u8], at: usize, from: BlockAddress, count: u32) -> usiz
     }
     let of = put_all(line, b" of ", at);
     let blocks = put_decimal(line, of, count as u64);
-    let address = put_all(line, b" blocks from ", blocks);
+    let address = put_blocks(line, blocks, count);
     put_decimal(line, address, from.0 as u64)
 }
 

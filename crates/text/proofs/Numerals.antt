@@ -1,6 +1,5 @@
 -- A number that a text says, digit by digit. Assumes nothing.
 use Rattle.ground.specs.Kit.{_≡_, refl, sym, ap, _∙_, Bool, true, false, cond, and-false, List, [], _∷_, ℕ, zero, suc, _+_, _-_, _*_, _/_, _^_, _<_, _≤_, arith, le-leb, lt-leb, le-ltb, lt-ltb, ltb-false, ltb, pow-step, eqb·suc-zero, length, drop, drop-cons, drop-of-length-le, getD, add-one}
-use Rattle.text.specs.declared.{Numeral.Numeral}
 use Rattle.text.specs.declared.Numeral.the-variants.{Of, NoNumber}
 use Rattle.text.specs.Numbers.{lastDigit, digitsBefore}
 use Rattle.text.specs.Reading.{withDigit, after, numberOf, ReadsNumbers}

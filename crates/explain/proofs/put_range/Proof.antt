@@ -16,11 +16,11 @@ unfolding rangeText
 returns-2 c =
     let address = c .before .before in
     let from = address .before .before .before .before .before in
-    let count = from .before .before .before .before .before in
+    let count = from .before .before .before .before in
     let of = count .before .before .before .before in
     let blocks = put-then _ _ _ _ _ (of .put-all2 .ensures) (count .put-decimal2 .ensures) in
     rw (ne-eqb _ 0 (of .before .before .before .if1 .left))
-    (put-then _ _ _ _ _ (put-then _ _ _ _ _ blocks (from .put-all3 .ensures)) (address .put-decimal3 .ensures))
+    (put-then _ _ _ _ _ (put-then _ _ _ _ _ blocks (from .put-blocks .ensures)) (address .put-decimal3 .ensures))
 
 pub put-range-spec : {M : Type 1} → statement M
 put-range-spec =
@@ -35,7 +35,6 @@ put-range-spec =
     (λ c. refl)
     (λ _ _. tt)
     (λ _ _. tt)
-    (λ c. refl)
     (λ _ _. tt)
     (λ c. search needs)
     (λ _ _. tt)
