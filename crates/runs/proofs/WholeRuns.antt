@@ -18,7 +18,7 @@ use Rattle.runs.proofs.Printing.{whole-printed, whatever-is-behind}
 all-ready : (x : ℕ) (xs : List ℕ) → readyB (x ∷ xs) true ≡ true
 all-ready x xs = rw (eqb·suc-zero (length xs)) (or-true (enoughB (x ∷ xs)))
 
--- the bench player waits for what it needs to tell a record, and for no more
+-- the bench player is such a machine: any room of 516 bytes will do
 pub steady : (explain : Bool) (room : ℕ) → 516 ≤ room → Steady (playing explain) room
 unfolding playedOf
 steady explain room wide =

@@ -1,5 +1,5 @@
 // What a program shares with the shell that starts it: its arguments, its input, what it says of trouble, and its exit status.
-ghost use Rattle.ground.specs.Kit.{_≡_, length};
+ghost use Rattle.ground.specs.Kit.{_≡_, _≤_, length};
 ghost use Rattle.shell.specs.Arguments.{Within, optionB, withFile, withOption, withWord};
 use libc::STDERR_FILENO;
 use libc::STDIN_FILENO;
@@ -178,14 +178,18 @@ pub struct Input {
     pub name: usize,
 }
 
-fn standard(room: &mut [u8]) -> Input {
+fn standard(room: &mut [u8]) -> Input
+    ensures { λ r. ⌜ r .name ≤ length (now (room .exit)) ⌝ }
+{
     Input {
         descriptor: STDIN_FILENO,
         name: text::put_all(room, b"standard input", 0),
     }
 }
 
-fn open_named(program: &[u8], name: &[u8]) -> Input {
+fn open_named(program: &[u8], name: &[u8]) -> Input
+    ensures { λ r. ⌜ r .name ≡ length (now (name .entry)) ⌝ }
+{
     let descriptor = os::open_read(name);
     if descriptor < 0 {
         trouble_with(program, name);
@@ -197,7 +201,9 @@ fn open_named(program: &[u8], name: &[u8]) -> Input {
 }
 
 // The file that an argument names; standard input for `-` and for argument 0.
-pub fn open(program: &[u8], file: usize, room: &mut [u8]) -> Input {
+pub fn open(program: &[u8], file: usize, room: &mut [u8]) -> Input
+    ensures { λ r. ⌜ r .name ≤ length (now (room .exit)) ⌝ }
+{
     if file == 0 {
         return standard(room);
     }

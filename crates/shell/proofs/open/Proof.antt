@@ -9,6 +9,10 @@ there c = given-within _ _ _ (c .before .before .before .before .before .given .
 there-again : tie.Need-slice-reshare-prefix-open-named
 there-again c = there (c .before .before .before .before)
 
+-- the name is as long as the argument
+named : tie.Need-returns-3
+named c = let fits = there-again (c .before .before) in rw (c .open-named .ensures) (rw (length-take-le _ _ fits) fits)
+
 pub open-spec : {M : Type 1} → statement M
 open-spec =
     tie.close
@@ -31,6 +35,6 @@ open-spec =
     (λ c. search needs)
     (λ c. search needs)
     (λ c. search needs)
-    (λ c. search needs)
+    named
     (λ c. search needs)
     (λ c. search needs))
