@@ -54,15 +54,35 @@ pub fn trouble(line: &[u8]) {
     end(TROUBLE);
 }
 
-// The same for what the system refused: the program, what it was about, and the system's reason.
-pub fn trouble_with(program: &[u8], name: &[u8]) {
+// What a complaint begins with: the program, and what it is about.
+fn put_subject(text: &mut [u8], program: &[u8], name: &[u8]) -> usize
+    ensures { λ r. ⌜ r ≤ length (now (text .exit)) ⌝ }
+{
+    let colon = text::put_all(text, program, 0);
+    let start = text::put_all(text, b": ", colon);
+    let end_of_name = text::put_plain(text, name, start);
+    ground::least(end_of_name, text.len())
+}
+
+// What the system refused, in one line with the system's reason.
+pub fn complain(program: &[u8], name: &[u8]) {
     let mut text = [0u8; COMPLAINT_BYTES];
-    let colon = text::put_all(&mut text, program, 0);
-    let start = text::put_all(&mut text, b": ", colon);
-    let end_of_name = text::put_plain(&mut text, name, start);
-    let n = ground::least(end_of_name, text.len());
+    let n = put_subject(&mut text, program, name);
     os::fail(&text[..n]);
+}
+
+// A program that stops for what the system refused.
+pub fn trouble_with(program: &[u8], name: &[u8]) {
+    complain(program, name);
     end(TROUBLE);
+}
+
+// The same where the program has a reason of its own, with which the line ends.
+pub fn trouble_for(program: &[u8], name: &[u8], reason: &[u8]) {
+    let mut text = [0u8; COMPLAINT_BYTES];
+    let n = put_subject(&mut text, program, name);
+    io::write_all(STDERR_FILENO, &text[..n]);
+    trouble(reason);
 }
 
 // All of a text goes out, or the program has to stop.

@@ -4,7 +4,7 @@ use Rattle.window.specs.Windows.{unread, usedOf, broughtOf}
 use Rattle.window.specs.Holding.{UsedUnread, ToFrontUnread, CameUnread, OpenedHolds, UsedHolds, WithinStays, ToFrontHolds, SettledHolds, CameHolds}
 use Rattle.window.proofs.Answers.{at-most}
 
-drop-taken : (c n : ℕ) (l : List ℕ) → drop c (take n l) ≡ take (n - c) (drop c l)
+pub drop-taken : (c n : ℕ) (l : List ℕ) → drop c (take n l) ≡ take (n - c) (drop c l)
 drop-taken zero n l = rw (sub-zero n)
 drop-taken (suc c) zero l = let none : 0 - suc c ≡ 0 = omega arith in rw none
 drop-taken (suc c) (suc n) [] = rw (take-nil (suc n - suc c))

@@ -16,10 +16,10 @@ last-alike zero = refl
 last-alike (suc n) = rw (lt-leb (suc n) 0 (omega arith), eqb·suc-zero n)
 
 -- a window of the same unread bytes within a room of that length
-record Fits (size : ℕ) (bytes : List ℕ) (h : Held) : Type 0 where
-  same : unread (h .window) (h .room) ≡ bytes
-  ends : Open (h .window) (h .room)
-  long : length (h .room) ≡ size
+pub record Fits (size : ℕ) (bytes : List ℕ) (h : Held) : Type 0 where
+  pub same : unread (h .window) (h .room) ≡ bytes
+  pub ends : Open (h .window) (h .room)
+  pub long : length (h .room) ≡ size
 
 -- a read: the bytes come behind the unread ones
 module _ (size : ℕ) (bytes : List ℕ) (h : Held) (f : Fits size bytes h) (more : List ℕ) (fits : h .window .upto + length more ≤ size)
@@ -33,7 +33,7 @@ module _ (size : ℕ) (bytes : List ℕ) (h : Held) (f : Fits size bytes h) (mor
   abbrev behind : List ℕ
   behind = more ++ leaves past
 
-  read-fits : Fits size (bytes ++ more) (refilled leaves h more)
+  pub read-fits : Fits size (bytes ++ more) (refilled leaves h more)
   read-fits =
       let there = length-take-le upto (h .room) (f .ends .there) in
       let last = length-drop (upto + length more) (h .room) in

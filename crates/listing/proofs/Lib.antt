@@ -1,0 +1,9 @@
+pub mod Rising
+pub mod Among
+pub mod Places
+pub mod Blocks
+pub mod Theorems
+pub mod Parts
+pub mod Printing
+pub mod Reading
+pub mod ReadBack

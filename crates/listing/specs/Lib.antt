@@ -1,0 +1,5 @@
+pub mod Differing
+pub mod Listing
+pub mod Turns
+pub mod Theorems
+pub mod Reading
