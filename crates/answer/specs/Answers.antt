@@ -1,5 +1,5 @@
 -- Paper 01, "Answers from the block buffer": the five answers, whole.
-use Rattle.ground.specs.Kit.{Bool, cond, List, _∷_, _++_, ℕ, _-_, eqb}
+use Rattle.ground.specs.Kit.{Bool, cond, List, _∷_, _++_, ℕ, _-_, eqb, set}
 use Rattle.disc.specs.Formats.{formatOf, heads}
 use Rattle.state.specs.declared.Sense as sense
 use Rattle.ground.specs.Bytes.{zeros, be2, be3, be4, text}
@@ -12,6 +12,10 @@ senseData s = 0x70 ∷ 0 ∷ s .0 ∷ zeros 4 ++ 0x0a ∷ zeros 4 ++ s .1 ∷ s 
 unfoldable pub inquiryData : List ℕ
 inquiryData =
     0x00 ∷ 0x80 ∷ 0x00 ∷ 0x01 ∷ 0x1f ∷ zeros 3 ++ text "EPHEMERA" ++ text "ELEMENT DISC" ++ text "    " ++ text "0100"
+
+-- Req 02: "with a nonzero unit byte 0 of the answer is 1F, the other 35 bytes are unchanged"
+abbrev pub inquiryTo : ℕ → List ℕ
+inquiryTo unit = set inquiryData 0 (cond (eqb unit 0) 0x00 0x1f)
 
 -- "25, 8 bytes: last block address, block length"
 unfoldable pub capacityData : ℕ → List ℕ

@@ -6,7 +6,7 @@ use Rattle.ground.specs.Bytes.{byteAt}
 use Rattle.ground.specs.Filling.{Filled, fillOf}
 use Rattle.state.specs.declared.Sense as state
 use Rattle.packet.specs.declared.Answering.the-variants.{Sense, Inquiry, FormatCapacities, Capacity, Mode}
-use Rattle.answer.specs.Answers.{senseData, inquiryData, capacityData, capacitiesData, modeData}
+use Rattle.answer.specs.Answers.{senseData, inquiryTo, capacityData, capacitiesData, modeData}
 
 -- "min(allocation, full size)"; a buffer shorter than that, which the drive never lends, is filled
 abbrev pub shareOf : List ℕ → ℕ → List ℕ → ℕ
@@ -18,10 +18,10 @@ abbrev pub putOf : List ℕ → ℕ → List ℕ → Filled
 putOf answer allocation buffer = fillOf (shareOf answer allocation buffer) answer buffer
 
 -- each answer, by the disc that is in, the old triple ("REQUEST SENSE first takes the old triple as its answer and shows no pending flag")
--- and the packet, of which 5A has the page control
+-- and the packet, of which 12 has the unit number (byte 1, bits 7-5) and 5A the page control
 unfoldable pub answerOf : Answering → Media → state.Sense → List ℕ → List ℕ
 answerOf Sense m sense p = senseData sense
-answerOf Inquiry m sense p = inquiryData
+answerOf Inquiry m sense p = inquiryTo (byteAt p 1 / 32)
 answerOf FormatCapacities m sense p = capacitiesData (m .disc)
 answerOf Capacity m sense p = capacityData (m .disc)
 answerOf Mode m sense p = modeData (m .disc) (m .protected) (eqb (byteAt p 2 / 64) 1)

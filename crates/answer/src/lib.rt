@@ -1,6 +1,6 @@
 // The five answers as bytes, and how one is put at the start of the block buffer.
 ghost use Rattle.ground.specs.Kit.{_≡_, _-_, cond};
-ghost use Rattle.answer.specs.Answers.{senseData, inquiryData, capacityData, withDiscData, withoutDiscData, modeData, capacitiesData};
+ghost use Rattle.answer.specs.Answers.{senseData, inquiryTo, capacityData, withDiscData, withoutDiscData, modeData, capacitiesData};
 ghost use Rattle.ground.specs.Filling.{filled};
 ghost use Rattle.answer.specs.Giving.{putOf, giveOf};
 use packet::Answering;
@@ -20,11 +20,15 @@ pub fn sense_data(sense: Sense) -> [u8; 18]
     data
 }
 
-// 12
-pub fn inquiry_data() -> [u8; 36]
-    ensures { λ r. ⌜ r ≡ inquiryData ⌝ }
+// 12; of a unit that isn't there the device type is 1F, none.
+pub fn inquiry_data(unit: u8) -> [u8; 36]
+    ensures { λ r. ⌜ r ≡ inquiryTo unit ⌝ }
 {
-    *b"\x00\x80\x00\x01\x1f\x00\x00\x00EPHEMERAELEMENT DISC    0100"
+    let mut data = *b"\x00\x80\x00\x01\x1f\x00\x00\x00EPHEMERAELEMENT DISC    0100";
+    if unit != 0 {
+        data[0] = 0x1f;
+    }
+    data
 }
 
 fn last_of(blocks: u32) -> u32
@@ -151,7 +155,10 @@ pub fn give(
 {
     match answering {
         Answering::Sense => put(&sense_data(sense), allocation, buffer),
-        Answering::Inquiry => put(&inquiry_data(), allocation, buffer),
+        Answering::Inquiry => {
+            let unit = ground::byte(packet, 1) / 32;
+            put(&inquiry_data(unit), allocation, buffer)
+        }
         Answering::FormatCapacities => put_capacities(media.disc, allocation, buffer),
         Answering::Capacity => put(&capacity_data(media.disc), 8, buffer),
         Answering::Mode => {

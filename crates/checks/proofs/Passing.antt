@@ -11,7 +11,7 @@ use Rattle.state.specs.Senses.{noSense, unknownCode, sameB, namedB}
 use Rattle.packet.specs.Fields.{addressOf, lengthOf}
 use Rattle.packet.specs.Rules.{ruleOf}
 use Rattle.packet.specs.declared.Known.the-variants.{Unknown, Base}
-use Rattle.packet.proofs.BaseCommands.{opensB, writesB, guarded, unit-asked}
+use Rattle.packet.proofs.BaseCommands.{opensB, writesB, guarded}
 use Rattle.checks.specs.Verdicts.{otherUnitB, inMaskB, pastEndB, failsB, failing, checksOf, verdictOf, verdict}
 use Rattle.checks.specs.declared.Verdict.the-variants.{Passes, Fails}
 
@@ -22,7 +22,7 @@ passesB (Fails sense) = false
 -- the checks A to H hold; of F and F2 nobody asks
 pub record Passed (m : Media) (h : Host) (p : List ℕ) (rule : Rule) : Type 0 where
   pub known : ruleOf p ≡ Base rule
-  pub unit : otherUnitB p ≡ false
+  pub unit : (rule .asked .unit && otherUnitB p) ≡ false
   pub power : (rule .asked .attention && h .power) ≡ false
   pub change : (rule .asked .attention && h .change) ≡ false
   pub disc : (rule .asked .disc && eqb (m .disc) 0) ≡ false
@@ -45,7 +45,7 @@ module _ (m : Media) (h : Host) (p : List ℕ) where
           let same : own ≡ rule = cc in
           let all : Passed m h p own = record {
             known = q;
-            unit = rw (unit-asked p own q) at (b .0);
+            unit = b .0;
             power = c .0;
             change = c .1 .0;
             disc = d .0;

@@ -15,7 +15,7 @@ use Rattle.packet.specs.Rules.{rules, ruleOf}
 use Rattle.packet.specs.declared.Field.the-variants.{Nowhere, Byte4, Bytes7To8, Bytes6To9}
 use Rattle.packet.specs.declared.Values.the-variants.{Any, ZeroBits, Page}
 use Rattle.packet.specs.declared.Known.the-variants.{Base}
-use Rattle.packet.proofs.BaseCommands.{ofKnown, of-base, opensB, unit-asked}
+use Rattle.packet.proofs.BaseCommands.{ofKnown, of-base, opensB}
 use Rattle.checks.specs.Verdicts.{bitsB, belowB, inMaskB, checksOf, verdict}
 use Rattle.checks.specs.declared.Verdict.the-variants.{Passes, Fails}
 use Rattle.checks.proofs.Below.{one-fails}
@@ -154,7 +154,6 @@ module _ (m : Media) (h : Host) (rule : Rule) (p : List ℕ) (opens : opensB (ru
             rw (
               q .rule,
               c .known,
-              unit-asked p rule (c .known),
               q .unit,
               c .unit,
               c .power,

@@ -1,9 +1,9 @@
 -- What our drive does over any block buffer and any disc 4: by computation. Assumes nothing.
-use Rattle.ground.specs.Kit.{_≡_, refl, ap, Bool, true, false, List, [], _++_, ℕ, min, length, take, drop}
+use Rattle.ground.specs.Kit.{_≡_, refl, ap, Bool, true, false, List, [], _∷_, _++_, ℕ, _*_, min, length, take, drop, length-drop, set}
 use Rattle.state.specs.declared.{Sense.Sense, Transfer.Transfer}
 use Rattle.disc.specs.Formats.{bufferBytes, formatOf, blockBytes, runBytes, discBytes, placeOf}
 use Rattle.disc.specs.Masks.{masks, maskRow}
-use Rattle.state.specs.declared.Transfer.the-variants.{Closed, Read, Write}
+use Rattle.state.specs.declared.Transfer.the-variants.{Closed, Answer, Read, Write}
 use Rattle.state.specs.Senses.{noSense, unknownCode, changeTold, namedB}
 use Rattle.state.specs.States.{mediaOf, hostOf, stateOf, noMedia, insertedOf, obeyedOf}
 use Rattle.sound.specs.Soundness.{onDiscB, endsOnBlockB, openSoundB, soundB}
@@ -12,7 +12,7 @@ use Rattle.packet.specs.Rules.{rules, ruleOf}
 use Rattle.checks.specs.Verdicts.{inMaskB, checksOf, verdict}
 use Rattle.answer.specs.Answers.{inquiryData}
 use Rattle.answer.specs.Giving.{answerOf, allocationOf, giveOf}
-use Rattle.house.specs.World.{World, inState, inDisc, Heard, Reply, reply, refusal}
+use Rattle.house.specs.World.{World, inState, inBuffer, inDisc, Heard, Reply, reply, refusal}
 use Rattle.house.specs.Refusals.{moveTests, commandTests, insertTests}
 use Rattle.house.specs.Theorems.{Ready}
 use Rattle.commands.specs.Events.{insertOf}
@@ -42,12 +42,15 @@ module _ {d : Device} {r : Run} (a : Accounted d r) where
       let count = ap (λ (h : Heard). h .count) e in
       (count, rw count (ap (λ (h : Heard). h .out) e))
 
--- TEST UNIT READY, INQUIRY of no bytes, a code that is unknown, READ of some blocks and WRITE of the first two
+-- TEST UNIT READY, INQUIRY of no bytes, INQUIRY of one byte to a unit, a code that is unknown, READ of some blocks and WRITE of the first two
 abbrev pub test : List ℕ
 test = bytes2And4 0x00 0 0
 
 abbrev pub inquiry : List ℕ
 inquiry = bytes2And4 0x12 0 0
+
+abbrev pub toUnit : ℕ → List ℕ
+toUnit unit = set (bytes2And4 0x12 0 1) 1 (unit * 32)
 
 abbrev pub unknown : List ℕ
 unknown = bytes2And4 0x55 0 0
@@ -84,23 +87,32 @@ module _ (w : World) (disc : List ℕ) where
   abbrev pub open4 : Transfer → World
   open4 t = with4 false noSense t
 
+  -- an answer of one byte is open
+  abbrev pub answering4 : ℕ → World
+  answering4 byte = inBuffer (open4 (Answer (record { at = 0; left = 1 }))) (byte ∷ drop 1 (w .buffer))
+
   -- what ours does there
   pub record Ours : Type 0 where
     pub inserts : callOf without (Insert 4 false disc) ≡ leaves (with4 true noSense Closed)
     pub refuses : callOf (open4 (reading 0 512)) (Insert 4 false disc) ≡ refusal 5 (open4 (reading 0 512)) []
     pub inquires : callOf (with4 true noSense Closed) (Command inquiry) ≡ passes (with4 true noSense Closed)
+    -- to unit 0 and to another
+    pub inquires-here : callOf (open4 Closed) (Command (toUnit 0)) ≡ passes (answering4 0x00)
+    pub inquires-elsewhere : callOf (open4 Closed) (Command (toUnit 7)) ≡ passes (answering4 0x1f)
     pub unknown-fails : callOf (with4 true noSense Closed) (Command unknown) ≡ leaves (with4 true unknownCode Closed)
     -- TEST UNIT READY tells the change if it is pending, else it passes
     pub tells : (sense : Sense) → namedB sense ≡ true → callOf (with4 true sense Closed) (Command test) ≡ leaves (with4 false changeTold Closed)
     pub tests : (sense : Sense) → namedB sense ≡ true → callOf (with4 false sense Closed) (Command test) ≡ passes (open4 Closed)
     pub inquiry-passes : judgedOf (verdict (mediaOf 4 false) (hostOf false true noSense) inquiry) .passed ≡ true
+    pub elsewhere-passes : judgedOf (verdict (mediaOf 4 false) (hostOf false false noSense) (toUnit 7)) .passed ≡ true
     pub test-fails : judgedOf (verdict (mediaOf 4 false) (hostOf false true noSense) test) .passed ≡ false
     pub test-passes : judgedOf (verdict (mediaOf 4 false) (hostOf false false changeTold) test) .passed ≡ true
     pub reads-third : callOf (open4 Closed) (Command (read 2 1)) ≡ passes (open4 (reading 1024 512))
     pub reads-two : callOf (open4 Closed) (Command (read 0 2)) ≡ passes (open4 (reading 0 1024))
     pub reads-three : callOf (open4 Closed) (Command (read 0 3)) ≡ passes (open4 (reading 0 1536))
     pub writes : callOf (open4 Closed) (Command write) ≡ passes (open4 (writing 0 1024))
-    -- pulls of an open READ and with nothing open, feeds of a WRITE of one block and of two
+    -- pulls of an open answer, of an open READ and with nothing open, feeds of a WRITE of one block and of two
+    pub pulls-answer : (byte : ℕ) (out : List ℕ) → callOf (answering4 byte) (Pull out) ≡ pullBy (answering4 byte .state .transfer) (answering4 byte) out
     pub pulls : (out : List ℕ) → callOf (open4 (reading 0 512)) (Pull out) ≡ pullBy (reading 0 512) (open4 (reading 0 512)) out
     pub pulls-third : (out : List ℕ) → callOf (open4 (reading 1024 512)) (Pull out) ≡ pullBy (reading 1024 512) (open4 (reading 1024 512)) out
     pub pulls-none : (out : List ℕ) → callOf (open4 Closed) (Pull out) ≡ reply 0 false 0 out (open4 Closed)
@@ -116,16 +128,20 @@ module _ (w : World) (disc : List ℕ) where
           inserts = rw d;
           refuses = refl;
           inquires = rw (b, d);
+          inquires-here = rw (b, d);
+          inquires-elsewhere = rw (b, d);
           unknown-fails = rw (b, d);
           tells = λ sense named. rw (b, d, named);
           tests = λ sense named. rw (b, d, named);
           inquiry-passes = refl;
+          elsewhere-passes = refl;
           test-fails = refl;
           test-passes = refl;
           reads-third = rw (b, d);
           reads-two = rw (b, d);
           reads-three = rw (b, d);
           writes = rw (b, d);
+          pulls-answer = λ byte out. rw (length-drop 1 (w .buffer), b, d);
           pulls = λ out. rw (b, d);
           pulls-third = λ out. rw (b, d);
           pulls-none = λ out. rw (b, d);

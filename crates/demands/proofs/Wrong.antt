@@ -1,5 +1,5 @@
 -- Each wrong device breaks demand 2. Assumes nothing.
-use Rattle.ground.specs.Kit.{_≡_, refl, sym, ap, _∙_, true, false, true≢false, false≢true, List, [], _∷_, _++_, flatten, ℕ, _<_, _+_, arith, eq-eqb, ne-eqb, length, getD, set, replicate, length-replicate, length-append, take-all, append-snoc}
+use Rattle.ground.specs.Kit.{_≡_, refl, sym, ap, _∙_, true, false, true≢false, false≢true, List, [], _∷_, _++_, flatten, ℕ, suc, _<_, _+_, arith, eq-eqb, ne-eqb, length, getD, set, replicate, length-replicate, length-append, take-all, append-snoc}
 use Rattle.disc.specs.declared.{BlockAddress.BlockAddress}
 use Rattle.state.specs.declared.{Sense.Sense}
 use Rattle.disc.specs.Formats.{bufferBytes, formatOf, blockBytes, runBytes, discBytes}
@@ -10,6 +10,8 @@ use Rattle.state.specs.States.{hostOf, stateOf, noMedia, movedOf}
 use Rattle.sound.specs.Soundness.{openSoundB, soundB}
 use Rattle.packet.specs.Fields.{addressOf, lengthOf}
 use Rattle.packet.specs.Rules.{rules, ruleOf}
+use Rattle.answer.specs.Answers.{inquiryData}
+use Rattle.answer.specs.Giving.{answerOf, allocationOf}
 use Rattle.house.specs.World.{World, inState, inBuffer, someWorld, Heard}
 use Rattle.house.specs.Refusals.{moveTests}
 use Rattle.house.specs.Theorems.{Ready}
@@ -31,17 +33,19 @@ use Rattle.demands.specs.Wrong.{
   unknownCodeClears,
   closesAtRefusal,
   blankFrom40,
+  failsAnotherUnit,
+  answersForAll,
   versionOne,
   versionTwo,
   versionThree,
   Excluded,
 }
 use Rattle.demands.proofs.Foretelling.{foretold-accepted}
-use Rattle.demands.proofs.OnDisc4.{fed-count, pulled-bytes, test, inquiry, unknown, write, reading, writing, without, with4, open4, Ours, ours, ready-closed, ready-reading, ready-writing}
+use Rattle.demands.proofs.OnDisc4.{fed-count, pulled-bytes, test, inquiry, toUnit, unknown, write, reading, writing, without, with4, open4, Ours, ours, ready-closed, ready-reading, ready-writing}
 
--- a list that starts with 0 is none that starts with 7
-starts-otherwise : {l k : List ℕ} → l ≡ k → getD l 0 0 ≡ 0 → getD k 0 0 ≡ 7 → ⊥
-starts-otherwise e zero seven = let same = ap (λ (l : List ℕ). getD l 0 0) e in omega arith
+-- a list that starts with 0 is none that starts with another number
+starts-otherwise : {l k : List ℕ} {n : ℕ} → l ≡ k → getD l 0 0 ≡ 0 → getD k 0 0 ≡ suc n → ⊥
+starts-otherwise e zero other = let same = ap (λ (l : List ℕ). getD l 0 0) e in omega arith
 
 -- bytes that complete a block, gathered one after the other, replace it
 gather-whole : (size : ℕ) (blocks : List (List ℕ)) (block : BlockAddress) (got xs : List ℕ) → 0 < length xs → length got + length xs ≡ size
@@ -79,6 +83,12 @@ module _ (v : World) (rest : List ℕ) (b : length (v .buffer) ≡ bufferBytes) 
   fails-everything says f =
       let one = (rw (our .inquires) at (f (with4 v disc true noSense Closed) inquiry)) refl in
       false≢true (ap (λ (j : Judged). j .passed) one ∙ our .inquiry-passes)
+
+  -- INQUIRY to unit 7 passes
+  fails-another-unit : Judges failsAnotherUnit → ⊥
+  fails-another-unit f =
+      let one = (rw (our .inquires-elsewhere) at (f (open4 v disc Closed) (toUnit 7))) refl in
+      false≢true (ap (λ (j : Judged). j .passed) one ∙ our .elsewhere-passes)
 
   -- TEST UNIT READY tells the change
   passes-everything : Judges passesEverything → ⊥
@@ -130,6 +140,13 @@ module _ (v : World) (rest : List ℕ) (b : length (v .buffer) ≡ bufferBytes) 
       let a = rw (our .tells noSense refl) at (f .ready (with4 v disc true noSense Closed) (Command test ∷ []) (ready-closed v disc b (rw d) true)) in
       let told = foretold-accepted _ _ (Command test) _ (rw (our .tells changeTold refl) at (a .hears (Command test))) refl in
       false≢true (ap (λ (h : Heard). h .passed) told ∙ our .test-passes)
+
+  -- unit 7 is none, 1F
+  answers-for-all : Accounts answersForAll → ⊥
+  unfolding noted rules ruleOf lengthOf answerOf allocationOf inquiryData
+  answers-for-all f =
+      let a = rw (our .inquires-elsewhere, our .inquires-here) at (f .ready (open4 v disc Closed) (Command (toUnit 7) ∷ []) (ready-closed v disc b (rw d) false)) in
+      starts-otherwise ((rw (our .pulls-answer 0x00 (0 ∷ [])) at (pulled-bytes a (0 ∷ []))) refl .1) refl refl
 
   -- a 7 is read
   hands-out-zeros : Accounts handsOutZeros → ⊥
@@ -189,6 +206,8 @@ module _ (v : World) (rest : List ℕ) (b : length (v .buffer) ≡ bufferBytes) 
         never-ready = never-ready;
         closes-at-refusal = closes-at-refusal;
         blank-from-40 = blank-from-40;
+        fails-another-unit = fails-another-unit;
+        answers-for-all = answers-for-all;
         unknown-code-clears = unknown-code-clears;
         version-one = version-one;
         version-two = version-two;

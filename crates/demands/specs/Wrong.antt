@@ -1,13 +1,14 @@
 -- Devices that break a demand, each ours but for one thing; proofs/Wrong refutes them.
-use Rattle.ground.specs.Kit.{_≡_, Bool, true, false, cond, _&&_, List, [], _∷_, _++_, ℕ, _-_, min, eqb, length, take, drop, replicate, sets}
+use Rattle.ground.specs.Kit.{_≡_, Bool, true, false, cond, _&&_, List, [], _∷_, _++_, ℕ, _-_, min, eqb, length, take, drop, replicate, set, sets}
 use Rattle.state.specs.declared.{Sense.Sense, DiscAt.DiscAt, Transfer.Transfer}
 use Rattle.packet.specs.declared.{Rule.Rule}
 use Rattle.disc.specs.Formats.{blockBytes}
-use Rattle.state.specs.Senses.{noSense, unknownCode, sameB}
+use Rattle.state.specs.Senses.{noSense, unknownCode, otherUnit, sameB}
 use Rattle.state.specs.declared.Transfer.the-variants.{Closed, Answer as AnswerFrom, Read, Write}
 use Rattle.state.specs.States.{hostOf, stateOf, powerOn, obeyedOf}
 use Rattle.packet.specs.Fields.{addressOf}
 use Rattle.packet.specs.Rules.{codeOf}
+use Rattle.checks.specs.Verdicts.{otherUnitB}
 use Rattle.house.specs.World.{World, inState, inBuffer, inDisc, Reply, reply}
 use Rattle.drive.specs.Calls.{Call, Insert, Eject, Command, Feed, Pull, callOf}
 use Rattle.demands.specs.Device.{Device}
@@ -151,6 +152,14 @@ zerosFrom40 buffer = take 40 buffer ++ replicate (length buffer - 40) 0
 abbrev pub blankFrom40 : Device
 blankFrom40 = pulling (λ w out a. record { heard = callOf (inBuffer w (zerosFrom40 (w .buffer))) (Pull out) .heard; world = a .world })
 
+-- ---- Req 02: INQUIRY to another unit still fails at B; or it passes, and answers as to unit 0
+
+abbrev pub failsAnotherUnit : Device
+failsAnotherUnit = commanding (λ w p a. cond (eqb (codeOf p) 0x12 && otherUnitB p) (ifAccepted a (saying false otherUnit w)) a)
+
+abbrev pub answersForAll : Device
+answersForAll = commanding (λ w p a. cond (a .heard .passed && eqb (codeOf p) 0x12) (callOf w (Command (set p 1 0))) a)
+
 -- ---- the first three versions of the box
 
 -- version one swaps silently: the change flag stays as it was
@@ -182,6 +191,8 @@ pub record Excluded : Type 0 where
   pub never-ready : Accounts neverReady → ⊥
   pub closes-at-refusal : Accounts closesAtRefusal → ⊥
   pub blank-from-40 : Accounts blankFrom40 → ⊥
+  pub fails-another-unit : Judges failsAnotherUnit → ⊥
+  pub answers-for-all : Accounts answersForAll → ⊥
   pub unknown-code-clears : Announces unknownCodeClears → ⊥
   pub version-one : Announces versionOne → ⊥
   pub version-two : Announces versionTwo → ⊥

@@ -4,4 +4,5 @@ pub mod Staying
 pub mod OneReply
 pub mod Whole
 pub mod Pending
+pub mod Units
 pub mod Cases

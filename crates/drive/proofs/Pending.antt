@@ -3,7 +3,7 @@ use Rattle.ground.specs.Kit.{_≡_, refl, sym, _∙_, Bool, true, false, cond, 
 use Rattle.state.specs.declared.{Sense.Sense, Media.Media, Host.Host}
 use Rattle.packet.specs.declared.{Rule.Rule, Known.Known}
 use Rattle.checks.specs.declared.{Check.Check}
-use Rattle.ground.proofs.Truth.{both}
+use Rattle.ground.proofs.Truth.{both, neither}
 use Rattle.state.specs.Senses.{powerTold, changeTold}
 use Rattle.state.specs.States.{insertedOf, ejectedOf, obeyedOf}
 use Rattle.packet.specs.Rules.{codeOf, ruleOf}
@@ -42,9 +42,13 @@ calm (c ∷ cs) rule e =
     here true one more = sym (and-true (reportsB (Fails (c .1)))) ∙ not-true (reportsB (Fails (c .1)) && true) one
 
 module _ (m : Media) (h : Host) (p : List ℕ) (rule : Rule) (known : ruleOf p ≡ Base rule) where
-  other-unit : otherUnitB p ≡ true → reportsB (verdict m h p) ≡ false
+  -- B is asked of what C is asked of
+  unit-too : freeB (codeOf p) ≡ false → rule .asked .unit ≡ true
+  unit-too free = unit-asked p rule known ∙ rw (neither (eqb (codeOf p) 0x03) (eqb (codeOf p) 0x12) free .1)
+
+  other-unit : freeB (codeOf p) ≡ false → otherUnitB p ≡ true → reportsB (verdict m h p) ≡ false
   unfolding verdict checksOf
-  other-unit e = rw (known, unit-asked p rule known, e)
+  other-unit free e = rw (known, unit-too free, e)
 
   unasked : freeB (codeOf p) ≡ true → reportsB (verdict m h p) ≡ false
   unfolding verdict checksOf
@@ -53,11 +57,11 @@ module _ (m : Media) (h : Host) (p : List ℕ) (rule : Rule) (known : ruleOf p �
   module _ (unit : otherUnitB p ≡ false) (free : freeB (codeOf p) ≡ false) where
     power-first : h .power ≡ true → verdict m h p ≡ Fails powerTold
     unfolding verdict checksOf
-    power-first on = rw (known, unit-asked p rule known, unit, attended p rule known, free, on)
+    power-first on = rw (known, unit-too free, unit, attended p rule known, free, on)
 
     change-first : h .power ≡ false → h .change ≡ true → verdict m h p ≡ Fails changeTold
     unfolding verdict checksOf
-    change-first off on = rw (known, unit-asked p rule known, unit, attended p rule known, free, off, on)
+    change-first off on = rw (known, unit-too free, unit, attended p rule known, free, off, on)
 
 -- ---- the run
 
@@ -89,8 +93,8 @@ other m h p long e = here (ruleOf p) refl (otherUnitB p) refl (freeB (codeOf p))
   where
     here : (k : Known) → ruleOf p ≡ k → (u : Bool) → otherUnitB p ≡ u → (f : Bool) → freeB (codeOf p) ≡ f → reportsB (verdict m h p) ≡ false
     here Unknown q u v f g = rw q
-    here (Base rule) q true v f g = other-unit m h p rule q v
-    here (Base rule) q false v true g = unasked m h p rule q g
+    here (Base rule) q u v true g = unasked m h p rule q g
+    here (Base rule) q true v false g = other-unit m h p rule q g v
     here (Base rule) q false v false g = absurd (true≢false (sym (rw (long, q, v, g) refl) ∙ e))
 
 -- a call that isn't such a command leaves the power-on flag as it is, and the change pending

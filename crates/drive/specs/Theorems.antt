@@ -1,20 +1,21 @@
--- What holds of the entries; proved in proofs/Staying, OneReply, Whole, Commanded and Pending. What holds of every call is stated of any device, in
+-- What holds of the entries; proved in proofs/Staying, OneReply, Whole, Commanded, Pending and Units. What holds of every call is stated of any device, in
 -- `demands` specs/Answered.
-use Rattle.ground.specs.Kit.{_≡_, Bool, true, false, cond, not, _&&_, _||_, List, [], _∷_, _++_, ℕ, suc, _+_, _-_, _%_, _≤_, eqb, leb, ltb, length, take, drop}
+use Rattle.ground.specs.Kit.{_≡_, Bool, true, false, cond, not, _&&_, _||_, List, [], _∷_, _++_, ℕ, suc, _+_, _-_, _%_, _≤_, eqb, leb, ltb, length, take, drop, set}
 use Rattle.disc.specs.declared.{BlockAddress.BlockAddress, BytePlace.BytePlace}
 use Rattle.state.specs.declared.{State.State, DiscAt.DiscAt}
 use Rattle.packet.specs.declared.{Known.Known}
 use Rattle.commands.specs.declared.{EventReply.EventReply, CommandReply.CommandReply}
 use Rattle.moves.specs.declared.{MoveReply.MoveReply}
+use Rattle.ground.specs.Bytes.{byteAt}
 use Rattle.disc.specs.Formats.{bufferBytes, blockBytes, placeOf}
 use Rattle.state.specs.declared.Transfer.the-variants.{Write}
-use Rattle.state.specs.Senses.{noSense, changeTold, sameB}
+use Rattle.state.specs.Senses.{triple, noSense, changeTold, sameB}
 use Rattle.state.specs.States.{powerOn}
 use Rattle.sound.specs.Soundness.{soundB}
 use Rattle.packet.specs.Rules.{codeOf, ruleOf}
 use Rattle.packet.specs.declared.Known.the-variants.{Unknown, Base}
-use Rattle.checks.specs.Verdicts.{otherUnitB}
-use Rattle.house.specs.World.{World, inLent, Heard, Reply}
+use Rattle.checks.specs.Verdicts.{otherUnitB, inMaskB}
+use Rattle.house.specs.World.{World, inBuffer, inLent, Heard, Reply}
 use Rattle.house.specs.Theorems.{Ready}
 use Rattle.commands.specs.Events.{Event, happened}
 use Rattle.commands.specs.Obeying.{commanded}
@@ -140,3 +141,29 @@ someReportsB w (c ∷ cs) = (attendsB c && answersChangeB (callOf w c .heard)) |
 abbrev pub SecondAtLatest : Type 0
 SecondAtLatest =
     (w : World) (cs : List Call) → Ready w → w .state .host .change ≡ true → 2 ≤ attendedCount cs → someReportsB w cs ≡ true
+
+-- ---- Req 02: "Check B no longer applies to code 12; with a nonzero unit byte 0 of the answer is 1F, the other 35 bytes are unchanged."
+
+-- an accepted INQUIRY passes if no bit is set outside its mask, row 3 from 0, and else fails at E: to whatever unit, whatever is pending
+abbrev pub InquiryByMask : Type 0
+InquiryByMask =
+    (w : World) (p : List ℕ) → codeOf p ≡ 0x12 → houseOf w (Command p) ≡ 0
+    → let h = callOf w (Command p) .heard in
+    (h .passed ≡ inMaskB p 3) × (h .sense ≡ cond (inMaskB p 3) noSense (triple 0x05 0x24 0x00))
+
+-- any other base command to another unit fails at B
+abbrev pub OthersFailAtB : Type 0
+OthersFailAtB =
+    (w : World) (p : List ℕ) → (codeOf p ≡ 0x12 → ⊥) → baseB (ruleOf p) ≡ true → otherUnitB p ≡ true → houseOf w (Command p) ≡ 0
+    → let h = callOf w (Command p) .heard in
+    (h .passed ≡ false) × (h .sense ≡ triple 0x05 0x25 0x00)
+
+-- of two INQUIRYs of one allocation that pass, the one to another unit leaves what the one to unit 0 leaves, but for byte 0 of the answer
+abbrev pub ToAnotherUnit : Type 0
+ToAnotherUnit =
+    (w : World) (p q : List ℕ) → codeOf p ≡ 0x12 → codeOf q ≡ 0x12 → byteAt q 4 ≡ byteAt p 4 → otherUnitB p ≡ false → otherUnitB q ≡ true
+    → let a = callOf w (Command p) in
+    let b = callOf w (Command q) in
+    a .heard .passed ≡ true → b .heard .passed ≡ true
+    → let typed = cond (eqb (byteAt p 4) 0) (a .world .buffer) (set (a .world .buffer) 0 0x1f) in
+    b ≡ record { heard = a .heard; world = inBuffer (a .world) typed }

@@ -45,23 +45,27 @@ guarded p rule known =
       unprotected = of-base (λ code rule. not (writesB (rule .routine)) || rule .asked .unprotected) refl p rule known;
     }
 
--- check C is asked of all but 03 and 12
-abbrev pub freeB : ℕ → Bool
-freeB code = eqb code 0x03 || eqb code 0x12
-
 same : (a b : Bool) → Bool·beq a b ≡ true → a ≡ b
 same true true e = refl
 same false false e = refl
 same true false e = absurd (false≢true e)
 same false true e = absurd (false≢true e)
 
+-- a check that the entries ask of these codes and of no others
+exactly : (asks : Rule → Bool) (codes : ℕ → Bool) → all (λ e. ofKnown (λ code rule. Bool·beq (asks rule) (codes code)) (e .key) (e .item)) rules ≡ true
+    → (p : List ℕ) (rule : Rule) → ruleOf p ≡ Base rule → asks rule ≡ codes (codeOf p)
+exactly asks codes e p rule known =
+    same (asks rule) (codes (codeOf p)) (of-base (λ code rule. Bool·beq (asks rule) (codes code)) e p rule known)
+
+-- check C is asked of all but 03 and 12
+abbrev pub freeB : ℕ → Bool
+freeB code = eqb code 0x03 || eqb code 0x12
+
 pub attended : (p : List ℕ) (rule : Rule) → ruleOf p ≡ Base rule → rule .asked .attention ≡ not (freeB (codeOf p))
 unfolding rules
-attended p rule known =
-    same (rule .asked .attention) (not (freeB (codeOf p)))
-    (of-base (λ code rule. Bool·beq (rule .asked .attention) (not (freeB code))) refl p rule known)
+attended = exactly (λ rule. rule .asked .attention) (λ code. not (freeB code)) refl
 
--- check B is asked of every command
-pub unit-asked : (p : List ℕ) (rule : Rule) → ruleOf p ≡ Base rule → rule .asked .unit ≡ true
+-- check B is asked of all but 12
+pub unit-asked : (p : List ℕ) (rule : Rule) → ruleOf p ≡ Base rule → rule .asked .unit ≡ not (eqb (codeOf p) 0x12)
 unfolding rules
-unit-asked p rule known = of-base (λ code rule. rule .asked .unit) refl p rule known
+unit-asked = exactly (λ rule. rule .asked .unit) (λ code. not (eqb code 0x12)) refl

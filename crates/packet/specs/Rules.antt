@@ -37,14 +37,15 @@ baseOf row asked values length routine =
     Base (record { row = row; asked = asked; values = values; length = length; routine = routine })
 
 -- "Base commands: 00 01 03 12 1B 1E 23 25 28 2A 2B 2E 2F 5A A8 AA (hex)."
--- B: "for every command"; C: "not for 03 and 12"; D: "not for 03, 12, 1B, 1E, 23"; "G applies to 28, 2A, 2E, 2F, A8, AA; for 2B the
--- length counts as 0"; H: "2A, 2E, AA"; F: "1B has byte 4 bit 1 zero; 1E has byte 4 bit 0 zero; 5A has page .."
+-- B: "for every command", replaced by Req 02: "Check B no longer applies to code 12"
+-- C: "not for 03 and 12"; D: "not for 03, 12, 1B, 1E, 23"; "G applies to 28, 2A, 2E, 2F, A8, AA; for 2B the length counts as 0"; H: "2A,
+-- 2E, AA"; F: "1B has byte 4 bit 1 zero; 1E has byte 4 bit 0 zero; 5A has page .."
 unfoldable pub rules : List (Entry Known)
 rules =
     (0x00 is baseOf 0 (askingOf B C D no no) Any Nowhere Nothing)
     ∷ (0x01 is baseOf 1 (askingOf B C D no no) Any Nowhere Nothing)
     ∷ (0x03 is baseOf 2 (askingOf B no no no no) Any Byte4 (Answer Sense))
-    ∷ (0x12 is baseOf 3 (askingOf B no no no no) Any Byte4 (Answer Inquiry))
+    ∷ (0x12 is baseOf 3 (askingOf no no no no no) Any Byte4 (Answer Inquiry))
     ∷ (0x1b is baseOf 4 (askingOf B C no no no) (ZeroBits 0x02) Nowhere Motor)
     ∷ (0x1e is baseOf 5 (askingOf B C no no no) (ZeroBits 0x01) Nowhere Nothing)
     ∷ (0x23 is baseOf 6 (askingOf B C no no no) Any Bytes7To8 (Answer FormatCapacities))

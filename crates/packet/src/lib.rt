@@ -201,7 +201,7 @@ pub fn rule_of(packet: &[u8]) -> Known
         TEST_UNIT_READY => base(0, asking(B, C, D, NO, NO), ANY, NOWHERE, NOTHING),
         REZERO_UNIT => base(1, asking(B, C, D, NO, NO), ANY, NOWHERE, NOTHING),
         REQUEST_SENSE => base(2, asking(B, NO, NO, NO, NO), ANY, BYTE_4, GIVE_SENSE),
-        INQUIRY => base(3, asking(B, NO, NO, NO, NO), ANY, BYTE_4, GIVE_INQUIRY),
+        INQUIRY => base(3, asking(NO, NO, NO, NO, NO), ANY, BYTE_4, GIVE_INQUIRY),
         START_STOP_UNIT => base(4, asking(B, C, NO, NO, NO), BIT_1_ZERO, NOWHERE, MOTOR),
         PREVENT_REMOVAL => base(5, asking(B, C, NO, NO, NO), BIT_0_ZERO, NOWHERE, NOTHING),
         READ_FORMAT_CAPACITIES => base(6, asking(B, C, NO, NO, NO), ANY, BYTES_7_8, GIVE_FORMATS),

@@ -16,9 +16,11 @@ returns-2 : tie.Need-returns-2
 unfolding giveOf answerOf allocationOf
 returns-2 c =
     let answer = c .before .before .before .before .before in
-    let told = answer .before in
+    let byte = answer .before in
+    let told = byte .before in
     let x = told .before .before .before .before .args in
-    rw (told .enum-told2 .given .1) (c .before .before .put2 .ensures ∙ put-alike _ _ (answer .inquiry-data .ensures) (x .allocation) (x .buffer .now))
+    rw (told .enum-told2 .given .1, ← byte .byte .ensures)
+    (c .before .before .put2 .ensures ∙ put-alike _ _ (answer .inquiry-data .ensures) (x .allocation) (x .buffer .now))
 
 returns-3 : tie.Need-returns-3
 unfolding giveOf answerOf allocationOf
@@ -39,7 +41,7 @@ returns-5 c =
     let byte = answer .before in
     let told = byte .before in
     let x = told .before .before .before .before .args in
-    rw (told .enum-told5 .given .1, ← byte .byte .ensures)
+    rw (told .enum-told5 .given .1, ← byte .byte2 .ensures)
     (c .before .before .put4 .ensures ∙ put-alike _ _ (answer .mode-data .ensures) (x .allocation) (x .buffer .now))
 
 pub give-spec : {M : Type 1} → statement M
@@ -51,6 +53,7 @@ give-spec =
     (λ c. search needs)
     (λ _ _. tt)
     (λ c. search needs)
+    (λ _ _. tt)
     (λ _ _. tt)
     (λ c. search needs)
     (λ _ _. tt)
