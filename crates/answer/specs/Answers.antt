@@ -13,9 +13,9 @@ unfoldable pub inquiryData : List ℕ
 inquiryData =
     0x00 ∷ 0x80 ∷ 0x00 ∷ 0x01 ∷ 0x1f ∷ zeros 3 ++ text "EPHEMERA" ++ text "ELEMENT DISC" ++ text "    " ++ text "0100"
 
--- Req 02: "with a nonzero unit byte 0 of the answer is 1F, the other 35 bytes are unchanged"
+-- and of another unit by Req 02: "with a nonzero unit byte 0 of the answer is 1F, the other 35 bytes are unchanged"
 abbrev pub inquiryTo : ℕ → List ℕ
-inquiryTo unit = set inquiryData 0 (cond (eqb unit 0) 0x00 0x1f)
+inquiryTo unit = cond (eqb unit 0) inquiryData (set inquiryData 0 0x1f)
 
 -- "25, 8 bytes: last block address, block length"
 unfoldable pub capacityData : ℕ → List ℕ

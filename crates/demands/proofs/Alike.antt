@@ -1,6 +1,6 @@
 -- A packet that is alike to a passing READ or WRITE but for address and length passes too, where its blocks are among the other's.
 -- Assumes nothing.
-use Rattle.ground.specs.Kit.{_≡_, refl, sym, _∙_, Bool, true, false, not, _&&_, _||_, false≢true, List, ℕ, _+_, _≤_, _<_, _%_, arith, eq-eqb, eqb-true, le-ltb, lt-leb, ltb-true, bitAnd, and-mask, eqb, leb, ltb, length}
+use Rattle.ground.specs.Kit.{_≡_, refl, _∙_, Bool, true, false, not, _&&_, _||_, false≢true, List, ℕ, _+_, _≤_, _<_, _%_, arith, eq-eqb, eqb-true, le-ltb, lt-leb, bitAnd, and-mask, eqb, leb, ltb, length}
 use Rattle.disc.specs.declared.{BlockAddress.BlockAddress}
 use Rattle.state.specs.declared.{Media.Media, Host.Host}
 use Rattle.packet.specs.declared.{Field.Field, Values.Values, Rule.Rule}
@@ -18,7 +18,7 @@ use Rattle.packet.specs.declared.Known.the-variants.{Base}
 use Rattle.packet.proofs.BaseCommands.{ofKnown, of-base, opensB}
 use Rattle.checks.specs.Verdicts.{bitsB, belowB, inMaskB, checksOf, verdict}
 use Rattle.checks.specs.declared.Verdict.the-variants.{Passes, Fails}
-use Rattle.checks.proofs.Below.{one-fails}
+use Rattle.checks.proofs.Below.{below-at}
 use Rattle.checks.proofs.Passing.{passed, in-range}
 use Rattle.house.specs.World.{World, Reply}
 use Rattle.house.proofs.Houses.{command-admits}
@@ -76,14 +76,6 @@ plain p rule known opens =
     }
 
 -- ---- check E
-
--- all numbers below a limit, and one of them
-below-at : (f : ℕ → Bool) (n i : ℕ) → ltb i n ≡ true → belowB f n ≡ true → f i ≡ true
-below-at f n i h held = here (f i) refl
-  where
-    here : (b : Bool) → f i ≡ b → b ≡ true
-    here true q = refl
-    here false q = absurd (false≢true (sym (one-fails f n i (ltb-true i n h) q) ∙ held))
 
 module _ (field : Field) (row : ℕ) (p : List ℕ) (free : belowB (freeB field row) 12 ≡ true) (held : inMaskB p row ≡ true) where
   -- a byte as it was

@@ -1,5 +1,5 @@
 -- What our drive does over any block buffer and any disc 4: by computation. Assumes nothing.
-use Rattle.ground.specs.Kit.{_≡_, refl, ap, Bool, true, false, List, [], _∷_, _++_, ℕ, _*_, min, length, take, drop, length-drop, set}
+use Rattle.ground.specs.Kit.{_≡_, refl, ap, Bool, true, false, List, [], _∷_, _++_, ℕ, min, length, take, drop, length-drop}
 use Rattle.state.specs.declared.{Sense.Sense, Transfer.Transfer}
 use Rattle.disc.specs.Formats.{bufferBytes, formatOf, blockBytes, runBytes, discBytes, placeOf}
 use Rattle.disc.specs.Masks.{masks, maskRow}
@@ -21,6 +21,7 @@ use Rattle.feeds.specs.Feeding.{feedBy, feedOf}
 use Rattle.pulls.specs.Pulling.{pullBy, pullOf}
 use Rattle.drive.specs.Calls.{Insert, Command, Feed, Pull, callOf}
 use Rattle.drive.specs.Cases.{lengthAt7, bytes2And4}
+use Rattle.drive.specs.Theorems.{scanPacket}
 use Rattle.demands.specs.Device.{Device}
 use Rattle.demands.specs.Answered.{judgedOf}
 use Rattle.demands.specs.Faithful.{Run, Accounted}
@@ -50,7 +51,7 @@ abbrev pub inquiry : List ℕ
 inquiry = bytes2And4 0x12 0 0
 
 abbrev pub toUnit : ℕ → List ℕ
-toUnit unit = set (bytes2And4 0x12 0 1) 1 (unit * 32)
+toUnit unit = scanPacket unit 1
 
 abbrev pub unknown : List ℕ
 unknown = bytes2And4 0x55 0 0

@@ -1,5 +1,5 @@
 -- What a command opens is what the ledger takes and gives from then on. Assumes nothing.
-use Rattle.ground.specs.Kit.{_≡_, refl, sym, ap, subst, _∙_, Bool, true, false, cond, List, [], flatten, ℕ, _+_, _*_, _/_, _%_, _≤_, min, add-zero, arith, leb-true, leb-false, eqb, leb, lit≤, length, take, drop, length-drop, length-take-le, take-all, take-at}
+use Rattle.ground.specs.Kit.{_≡_, refl, sym, ap, subst, _∙_, Bool, true, false, cond, List, [], flatten, ℕ, _+_, _*_, _/_, _%_, _≤_, min, add-zero, arith, leb-true, leb-false, eqb, leb, lit≤, length, take, drop, length-drop, length-take-le, set, take-all, take-at}
 use Rattle.state.specs.declared.{Media.Media, Transfer.Transfer}
 use Rattle.packet.specs.declared.{Rule.Rule, Answering.Answering, Routine.Routine}
 use Rattle.checks.specs.declared.{Verdict.Verdict}
@@ -49,16 +49,17 @@ first-bytes n m xs h = here (leb n (length xs)) refl
         let e : min (min n (length xs)) m ≡ length xs = omega arith in
         rw (e, take-all n xs (omega arith), take-all (length xs) xs (omega arith))
 
--- every answer fits the block buffer
+-- either of two lists that fit the block buffer
+either-fits : (b : Bool) (xs ys : List ℕ) → length xs ≤ bufferBytes → length ys ≤ bufferBytes → length (cond b xs ys) ≤ bufferBytes
+either-fits true xs ys first other = first
+either-fits false xs ys first other = other
+
+-- every answer fits it
 answer-fits : (x : Answering) (m : Media) (sense : state.Sense) (p : List ℕ) → length (answerOf x m sense p) ≤ bufferBytes
 unfolding answerOf senseData inquiryData capacityData withDiscData withoutDiscData capacitiesData modeData
 answer-fits Sense m sense p = lit≤ tt
-answer-fits Inquiry m sense p = lit≤ tt
-answer-fits FormatCapacities m sense p = here (eqb (m .disc) 0)
-  where
-    here : (b : Bool) → length (cond b withoutDiscData (withDiscData (m .disc))) ≤ bufferBytes
-    here true = lit≤ tt
-    here false = lit≤ tt
+answer-fits Inquiry m sense p = either-fits (eqb (byteAt p 1 / 32) 0) inquiryData (set inquiryData 0 0x1f) (lit≤ tt) (lit≤ tt)
+answer-fits FormatCapacities m sense p = either-fits (eqb (m .disc) 0) withoutDiscData (withDiscData (m .disc)) (lit≤ tt) (lit≤ tt)
 answer-fits Capacity m sense p = lit≤ tt
 answer-fits Mode m sense p = here (eqb (byteAt p 2 / 64) 1)
   where

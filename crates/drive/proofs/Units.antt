@@ -1,9 +1,11 @@
 -- INQUIRY to whatever unit, and any other command to a unit that isn't there. Assumes nothing.
-use Rattle.ground.specs.Kit.{_≡_, refl, Bool, true, false, cond, not, false≢true, List, _∷_, _++_, ℕ, zero, suc, _<_, min, arith, not-false, not-true, ne-eqb, eqb-true, eqb-false, eqb, _/_, length, take, drop, set}
+use Rattle.ground.specs.Kit.{_≡_, refl, _∙_, Bool, true, false, cond, not, false≢true, List, _∷_, _++_, ℕ, zero, suc, _*_, _<_, min, arith, bitAnd, and-mask, not-false, not-true, lt-ltb, eq-eqb, ne-eqb, eqb-true, eqb-false, eqb, _/_, length, take, drop, set}
 use Rattle.state.specs.declared.{Media.Media, Host.Host}
 use Rattle.packet.specs.declared.{Rule.Rule, Known.Known}
+use Rattle.checks.specs.declared.{Verdict.Verdict}
 use Rattle.ground.specs.Bytes.{byteAt}
 use Rattle.disc.specs.Formats.{bufferBytes}
+use Rattle.disc.specs.Masks.{masks, maskRow}
 use Rattle.state.specs.Senses.{noSense, otherUnit, badField}
 use Rattle.state.specs.States.{obeyedOf}
 use Rattle.packet.specs.Fields.{lengthOf}
@@ -14,50 +16,71 @@ use Rattle.packet.specs.declared.Answering.the-variants.{Inquiry}
 use Rattle.packet.specs.declared.Routine.the-variants.{Answer}
 use Rattle.packet.specs.declared.Known.the-variants.{Unknown, Base}
 use Rattle.packet.proofs.BaseCommands.{unit-asked}
-use Rattle.checks.specs.Verdicts.{otherUnitB, inMaskB, checksOf, verdict}
+use Rattle.checks.specs.Verdicts.{otherUnitB, bitsB, inMaskB, checksOf, verdict}
 use Rattle.checks.specs.declared.Verdict.the-variants.{Passes, Fails}
+use Rattle.checks.proofs.Below.{below-at}
 use Rattle.answer.specs.Answers.{inquiryData}
 use Rattle.answer.specs.Giving.{answerOf, allocationOf, giveOf}
 use Rattle.house.specs.World.{World, Reply}
 use Rattle.house.proofs.Houses.{command-admits}
 use Rattle.commands.specs.Obeying.{performedOf, replyTo}
 use Rattle.drive.specs.Calls.{Command, callOf}
-use Rattle.drive.specs.Theorems.{baseB, InquiryByMask, OthersFailAtB, ToAnotherUnit}
+use Rattle.drive.specs.Theorems.{baseB, scanPacket, InquiryByMask, ScanPasses, OthersFailAtB, ToAnotherUnit}
 use Rattle.drive.proofs.Calling.{accepted, by-call}
 
 -- the rule of 12
 abbrev inquiry : Rule
 inquiry = record { row = 3; asked = askingOf false false false false false; values = Any; length = Byte4; routine = Answer Inquiry }
 
-module _ (m : Media) (h : Host) (p : List ℕ) where
-  by-mask : codeOf p ≡ 0x12 → verdict m h p ≡ cond (inMaskB p 3) (Passes inquiry) (Fails badField)
-  unfolding verdict rules ruleOf checksOf
-  by-mask code = rw code (here (inMaskB p 3))
-    where
-      here : (b : Bool) → cond (not b) (Fails badField) (Passes inquiry) ≡ cond b (Passes inquiry) (Fails badField)
-      here true = refl
-      here false = refl
-
-  at-b : (codeOf p ≡ 0x12 → ⊥) → (k : Known) → ruleOf p ≡ k → baseB k ≡ true → otherUnitB p ≡ true → verdict m h p ≡ Fails otherUnit
-  unfolding verdict checksOf
-  at-b other Unknown known base unit = absurd (false≢true base)
-  at-b other (Base rule) known base unit = rw (known, unit-asked p rule known, ne-eqb (codeOf p) 0x12 other, unit)
+-- what holds of passing within the mask and of failing at E outside it holds of the verdict on INQUIRY
+by-mask : (m : Media) (h : Host) (p : List ℕ) → codeOf p ≡ 0x12 → (P : Verdict → Type 0)
+    → (inMaskB p 3 ≡ true → P (Passes inquiry)) → (inMaskB p 3 ≡ false → P (Fails badField)) → P (verdict m h p)
+unfolding verdict rules ruleOf checksOf
+by-mask m h p code P passes fails = rw code (here (inMaskB p 3) refl)
+  where
+    here : (b : Bool) → inMaskB p 3 ≡ b → P (cond (not b) (Fails badField) (Passes inquiry))
+    here true q = passes q
+    here false q = fails q
 
 pub inquiry-by-mask : InquiryByMask
 unfolding performedOf obeyedOf
 inquiry-by-mask w p code none =
-    rw (accepted w (Command p) none, by-mask (w .state .media) (w .state .host) p code) (here (inMaskB p 3))
+    rw (accepted w (Command p) none) (by-mask (w .state .media) (w .state .host) p code Heeded (λ q. rw q (refl, refl)) (λ q. rw q (refl, refl)))
   where
-    here : (b : Bool)
-        → let h = replyTo (cond b (Passes inquiry) (Fails badField)) w p .heard in
-        (h .passed ≡ b) × (h .sense ≡ cond b noSense badField)
-    here true = (refl, refl)
-    here false = (refl, refl)
+    Heeded : Verdict → Type 0
+    Heeded v = let h = replyTo v w p .heard in (h .passed ≡ inMaskB p 3) × (h .sense ≡ cond (inMaskB p 3) noSense badField)
+
+-- ---- the scan
+
+module _ (unit allocation : ℕ) (low : unit < 8) (small : allocation < 256) where
+  unit-in : bitsB (scanPacket unit allocation) (maskRow 3) 1 ≡ true
+  unfolding masks maskRow
+  unit-in = below-at (λ u. bitsB (scanPacket u allocation) (maskRow 3) 1) 8 unit (lt-ltb unit 8 low) refl
+
+  allocation-in : bitsB (scanPacket unit allocation) (maskRow 3) 4 ≡ true
+  unfolding masks maskRow
+  allocation-in = eq-eqb (bitAnd allocation 0xff) allocation (and-mask allocation 8 ∙ omega arith)
+
+  in-mask : inMaskB (scanPacket unit allocation) 3 ≡ true
+  unfolding inMaskB masks maskRow
+  in-mask = rw (unit-in, allocation-in)
+
+pub scan-passes : ScanPasses
+scan-passes w unit allocation low small none =
+    inquiry-by-mask w (scanPacket unit allocation) refl none .0 ∙ in-mask unit allocation low small
+
+-- ---- any other command
+
+at-b : (m : Media) (h : Host) (p : List ℕ) (k : Known) → (codeOf p ≡ 0x12 → ⊥) → ruleOf p ≡ k → baseB k ≡ true → otherUnitB p ≡ true
+    → verdict m h p ≡ Fails otherUnit
+unfolding verdict checksOf
+at-b m h p Unknown other known base unit = absurd (false≢true base)
+at-b m h p (Base rule) other known base unit = rw (known, unit-asked p rule known, ne-eqb (codeOf p) 0x12 other, unit)
 
 pub others-fail-at-b : OthersFailAtB
 unfolding obeyedOf
 others-fail-at-b w p other base unit none =
-    rw (accepted w (Command p) none, at-b (w .state .media) (w .state .host) p other (ruleOf p) refl base unit) (refl, refl)
+    rw (accepted w (Command p) none, at-b (w .state .media) (w .state .host) p (ruleOf p) other refl base unit) (refl, refl)
 
 -- ---- what an INQUIRY that passes leaves
 
@@ -66,14 +89,13 @@ passing : (w : World) (p : List ℕ) → codeOf p ≡ 0x12 → callOf w (Command
     → (callOf w (Command p) ≡ replyTo (Passes inquiry) w p) × (length (w .buffer) ≡ bufferBytes)
 passing w p code =
     by-call w (Command p) Left (λ _ e. absurd (false≢true e))
-    (λ none. rw (by-mask (w .state .media) (w .state .host) p code) (here (command-admits w p .0 none .1 .buffer) (inMaskB p 3)))
+    (λ none.
+    by-mask (w .state .media) (w .state .host) p code (λ v. Left (replyTo v w p))
+    (λ _ _. (refl, command-admits w p .0 none .1 .buffer))
+    (λ _ e. absurd (false≢true e)))
   where
     Left : Reply → Type 0
     Left a = a .heard .passed ≡ true → (a ≡ replyTo (Passes inquiry) w p) × (length (w .buffer) ≡ bufferBytes)
-
-    here : length (w .buffer) ≡ bufferBytes → (b : Bool) → Left (replyTo (cond b (Passes inquiry) (Fails badField)) w p)
-    here long true e = (refl, long)
-    here long false e = absurd (false≢true e)
 
 -- a start of two lists that differ in their first byte, put into a buffer
 typed : (x y : ℕ) (xs buffer : List ℕ) (none : Bool) (n : ℕ) → (none ≡ true → n ≡ 0) → (none ≡ false → 0 < n)

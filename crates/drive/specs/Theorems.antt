@@ -1,6 +1,6 @@
--- What holds of the entries; proved in proofs/Staying, OneReply, Whole, Commanded, Pending and Units. What holds of every call is stated of any device, in
--- `demands` specs/Answered.
-use Rattle.ground.specs.Kit.{_≡_, Bool, true, false, cond, not, _&&_, _||_, List, [], _∷_, _++_, ℕ, suc, _+_, _-_, _%_, _≤_, eqb, leb, ltb, length, take, drop, set}
+-- What holds of the entries; proved in proofs/Staying, OneReply, Whole, Commanded, Pending and Units. What holds of every call is stated of any
+-- device, in `demands` specs/Answered.
+use Rattle.ground.specs.Kit.{_≡_, Bool, true, false, cond, not, _&&_, _||_, List, [], _∷_, _++_, ℕ, suc, _+_, _*_, _-_, _%_, _<_, _≤_, eqb, leb, ltb, length, take, drop, replicate, set}
 use Rattle.disc.specs.declared.{BlockAddress.BlockAddress, BytePlace.BytePlace}
 use Rattle.state.specs.declared.{State.State, DiscAt.DiscAt}
 use Rattle.packet.specs.declared.{Known.Known}
@@ -150,6 +150,17 @@ InquiryByMask =
     (w : World) (p : List ℕ) → codeOf p ≡ 0x12 → houseOf w (Command p) ≡ 0
     → let h = callOf w (Command p) .heard in
     (h .passed ≡ inMaskB p 3) × (h .sense ≡ cond (inMaskB p 3) noSense (triple 0x05 0x24 0x00))
+
+-- INQUIRY to a unit, with an allocation
+abbrev pub scanPacket : ℕ → ℕ → List ℕ
+scanPacket unit allocation = 0x12 ∷ unit * 32 ∷ 0 ∷ 0 ∷ allocation ∷ replicate 7 0
+
+-- "A console scans units 0 to 7 and gives up because 01 fails INQUIRY with 05 25 00.": to each of them it passes where it is accepted
+abbrev pub ScanPasses : Type 0
+ScanPasses =
+    (w : World) (unit allocation : ℕ) → unit < 8 → allocation < 256
+    → let c = Command (scanPacket unit allocation) in
+    houseOf w c ≡ 0 → callOf w c .heard .passed ≡ true
 
 -- any other base command to another unit fails at B
 abbrev pub OthersFailAtB : Type 0

@@ -38,8 +38,9 @@ baseOf row asked values length routine =
 
 -- "Base commands: 00 01 03 12 1B 1E 23 25 28 2A 2B 2E 2F 5A A8 AA (hex)."
 -- B: "for every command", replaced by Req 02: "Check B no longer applies to code 12"
--- C: "not for 03 and 12"; D: "not for 03, 12, 1B, 1E, 23"; "G applies to 28, 2A, 2E, 2F, A8, AA; for 2B the length counts as 0"; H: "2A,
--- 2E, AA"; F: "1B has byte 4 bit 1 zero; 1E has byte 4 bit 0 zero; 5A has page .."
+-- C: "not for 03 and 12"; D: "not for 03, 12, 1B, 1E, 23"
+-- F: "1B has byte 4 bit 1 zero; 1E has byte 4 bit 0 zero; 5A has page .."; H: "2A, 2E, AA"
+-- "G applies to 28, 2A, 2E, 2F, A8, AA; for 2B the length counts as 0."
 unfoldable pub rules : List (Entry Known)
 rules =
     (0x00 is baseOf 0 (askingOf B C D no no) Any Nowhere Nothing)
