@@ -48,10 +48,10 @@ abbrev pub test : List ℕ
 test = bytes2And4 0x00 0 0
 
 abbrev pub inquiry : List ℕ
-inquiry = bytes2And4 0x12 0 0
+inquiry = scanPacket 0 0
 
-abbrev pub toUnit : ℕ → List ℕ
-toUnit unit = scanPacket unit 1
+abbrev pub inquiryAt : ℕ → List ℕ
+inquiryAt unit = scanPacket unit 1
 
 abbrev pub unknown : List ℕ
 unknown = bytes2And4 0x55 0 0
@@ -98,14 +98,14 @@ module _ (w : World) (disc : List ℕ) where
     pub refuses : callOf (open4 (reading 0 512)) (Insert 4 false disc) ≡ refusal 5 (open4 (reading 0 512)) []
     pub inquires : callOf (with4 true noSense Closed) (Command inquiry) ≡ passes (with4 true noSense Closed)
     -- to unit 0 and to another
-    pub inquires-here : callOf (open4 Closed) (Command (toUnit 0)) ≡ passes (answering4 0x00)
-    pub inquires-elsewhere : callOf (open4 Closed) (Command (toUnit 7)) ≡ passes (answering4 0x1f)
+    pub inquires-here : callOf (open4 Closed) (Command (inquiryAt 0)) ≡ passes (answering4 0x00)
+    pub inquires-elsewhere : callOf (open4 Closed) (Command (inquiryAt 7)) ≡ passes (answering4 0x1f)
     pub unknown-fails : callOf (with4 true noSense Closed) (Command unknown) ≡ leaves (with4 true unknownCode Closed)
     -- TEST UNIT READY tells the change if it is pending, else it passes
     pub tells : (sense : Sense) → namedB sense ≡ true → callOf (with4 true sense Closed) (Command test) ≡ leaves (with4 false changeTold Closed)
     pub tests : (sense : Sense) → namedB sense ≡ true → callOf (with4 false sense Closed) (Command test) ≡ passes (open4 Closed)
     pub inquiry-passes : judgedOf (verdict (mediaOf 4 false) (hostOf false true noSense) inquiry) .passed ≡ true
-    pub elsewhere-passes : judgedOf (verdict (mediaOf 4 false) (hostOf false false noSense) (toUnit 7)) .passed ≡ true
+    pub elsewhere-passes : judgedOf (verdict (mediaOf 4 false) (hostOf false false noSense) (inquiryAt 7)) .passed ≡ true
     pub test-fails : judgedOf (verdict (mediaOf 4 false) (hostOf false true noSense) test) .passed ≡ false
     pub test-passes : judgedOf (verdict (mediaOf 4 false) (hostOf false false changeTold) test) .passed ≡ true
     pub reads-third : callOf (open4 Closed) (Command (read 2 1)) ≡ passes (open4 (reading 1024 512))

@@ -41,7 +41,7 @@ use Rattle.demands.specs.Wrong.{
   Excluded,
 }
 use Rattle.demands.proofs.Foretelling.{foretold-accepted}
-use Rattle.demands.proofs.OnDisc4.{fed-count, pulled-bytes, test, inquiry, toUnit, unknown, write, reading, writing, without, with4, open4, Ours, ours, ready-closed, ready-reading, ready-writing}
+use Rattle.demands.proofs.OnDisc4.{fed-count, pulled-bytes, test, inquiry, inquiryAt, unknown, write, reading, writing, without, with4, open4, Ours, ours, ready-closed, ready-reading, ready-writing}
 
 -- a list that starts with 0 is none that starts with another number
 starts-otherwise : {l k : List ℕ} {n : ℕ} → l ≡ k → getD l 0 0 ≡ 0 → getD k 0 0 ≡ suc n → ⊥
@@ -87,7 +87,7 @@ module _ (v : World) (rest : List ℕ) (b : length (v .buffer) ≡ bufferBytes) 
   -- INQUIRY to unit 7 passes
   fails-another-unit : Judges failsAnotherUnit → ⊥
   fails-another-unit f =
-      let one = (rw (our .inquires-elsewhere) at (f (open4 v disc Closed) (toUnit 7))) refl in
+      let one = (rw (our .inquires-elsewhere) at (f (open4 v disc Closed) (inquiryAt 7))) refl in
       false≢true (ap (λ (j : Judged). j .passed) one ∙ our .elsewhere-passes)
 
   -- TEST UNIT READY tells the change
@@ -145,7 +145,7 @@ module _ (v : World) (rest : List ℕ) (b : length (v .buffer) ≡ bufferBytes) 
   answers-for-all : Accounts answersForAll → ⊥
   unfolding noted rules ruleOf lengthOf answerOf allocationOf inquiryData
   answers-for-all f =
-      let a = rw (our .inquires-elsewhere, our .inquires-here) at (f .ready (open4 v disc Closed) (Command (toUnit 7) ∷ []) (ready-closed v disc b (rw d) false)) in
+      let a = rw (our .inquires-elsewhere, our .inquires-here) at (f .ready (open4 v disc Closed) (Command (inquiryAt 7) ∷ []) (ready-closed v disc b (rw d) false)) in
       starts-otherwise ((rw (our .pulls-answer 0x00 (0 ∷ [])) at (pulled-bytes a (0 ∷ []))) refl .1) refl refl
 
   -- a 7 is read

@@ -151,6 +151,13 @@ InquiryByMask =
     → let h = callOf w (Command p) .heard in
     (h .passed ≡ inMaskB p 3) × (h .sense ≡ cond (inMaskB p 3) noSense (triple 0x05 0x24 0x00))
 
+-- so with one of bits 4-0 of byte 1 it fails
+abbrev pub LowBitsFail : Type 0
+LowBitsFail =
+    (w : World) (p : List ℕ) → codeOf p ≡ 0x12 → byteAt p 1 < 256 → (byteAt p 1 % 32 ≡ 0 → ⊥) → houseOf w (Command p) ≡ 0
+    → let h = callOf w (Command p) .heard in
+    (h .passed ≡ false) × (h .sense ≡ triple 0x05 0x24 0x00)
+
 -- INQUIRY to a unit, with an allocation
 abbrev pub scanPacket : ℕ → ℕ → List ℕ
 scanPacket unit allocation = 0x12 ∷ unit * 32 ∷ 0 ∷ 0 ∷ allocation ∷ replicate 7 0
@@ -162,19 +169,18 @@ ScanPasses =
     → let c = Command (scanPacket unit allocation) in
     houseOf w c ≡ 0 → callOf w c .heard .passed ≡ true
 
--- any other base command to another unit fails at B
-abbrev pub OthersFailAtB : Type 0
-OthersFailAtB =
-    (w : World) (p : List ℕ) → (codeOf p ≡ 0x12 → ⊥) → baseB (ruleOf p) ≡ true → otherUnitB p ≡ true → houseOf w (Command p) ≡ 0
-    → let h = callOf w (Command p) .heard in
-    (h .passed ≡ false) × (h .sense ≡ triple 0x05 0x25 0x00)
-
--- of two INQUIRYs of one allocation that pass, the one to another unit leaves what the one to unit 0 leaves, but for byte 0 of the answer
+-- to another unit it leaves what it leaves to unit 0, heard, state, disc and block buffer, but for byte 0 of the answer, where there is one
 abbrev pub ToAnotherUnit : Type 0
 ToAnotherUnit =
-    (w : World) (p q : List ℕ) → codeOf p ≡ 0x12 → codeOf q ≡ 0x12 → byteAt q 4 ≡ byteAt p 4 → otherUnitB p ≡ false → otherUnitB q ≡ true
-    → let a = callOf w (Command p) in
-    let b = callOf w (Command q) in
-    a .heard .passed ≡ true → b .heard .passed ≡ true
-    → let typed = cond (eqb (byteAt p 4) 0) (a .world .buffer) (set (a .world .buffer) 0 0x1f) in
-    b ≡ record { heard = a .heard; world = inBuffer (a .world) typed }
+    (w : World) (unit allocation : ℕ) → 0 < unit → unit < 8 → allocation < 256
+    → let c = Command (scanPacket 0 allocation) in
+    let a = callOf w c in
+    let typed = cond (eqb allocation 0) (a .world .buffer) (set (a .world .buffer) 0 0x1f) in
+    houseOf w c ≡ 0 → callOf w (Command (scanPacket unit allocation)) ≡ record { heard = a .heard; world = inBuffer (a .world) typed }
+
+-- any other base command to another unit, so that byte 1 is 32 at the least, fails at B
+abbrev pub OthersFailAtB : Type 0
+OthersFailAtB =
+    (w : World) (p : List ℕ) → (codeOf p ≡ 0x12 → ⊥) → baseB (ruleOf p) ≡ true → 32 ≤ byteAt p 1 → houseOf w (Command p) ≡ 0
+    → let h = callOf w (Command p) .heard in
+    (h .passed ≡ false) × (h .sense ≡ triple 0x05 0x25 0x00)
