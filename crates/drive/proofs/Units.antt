@@ -45,10 +45,10 @@ by-mask m h p code P passes fails = rw code (here (inMaskB p 3) refl)
 pub inquiry-by-mask : InquiryByMask
 unfolding performedOf obeyedOf
 inquiry-by-mask w p code none =
-    rw (accepted w (Command p) none) (by-mask (w .state .media) (w .state .host) p code Heeded (λ q. rw q (refl, refl)) (λ q. rw q (refl, refl)))
+    rw (accepted w (Command p) none) (by-mask (w .state .media) (w .state .host) p code ByMask (λ q. rw q (refl, refl)) (λ q. rw q (refl, refl)))
   where
-    Heeded : Verdict → Type 0
-    Heeded v = let h = replyTo v w p .heard in (h .passed ≡ inMaskB p 3) × (h .sense ≡ cond (inMaskB p 3) noSense badField)
+    ByMask : Verdict → Type 0
+    ByMask v = let h = replyTo v w p .heard in (h .passed ≡ inMaskB p 3) × (h .sense ≡ cond (inMaskB p 3) noSense badField)
 
 -- ---- bits outside the mask
 
@@ -66,24 +66,25 @@ low-bits-fail w p code byte low none = rw (low-out p byte low) at (inquiry-by-ma
 -- ---- the scan
 
 module _ (unit allocation : ℕ) (low : unit < 8) (small : allocation < 256) where
-  unit-in : bitsB (scanPacket unit allocation) (maskRow 3) 1 ≡ true
+  abbrev scan : List ℕ
+  scan = scanPacket unit allocation
+
+  unit-in : bitsB scan (maskRow 3) 1 ≡ true
   unfolding masks maskRow
   unit-in = below-at (λ u. bitsB (scanPacket u allocation) (maskRow 3) 1) 8 unit (lt-ltb unit 8 low) refl
 
-  allocation-in : bitsB (scanPacket unit allocation) (maskRow 3) 4 ≡ true
+  allocation-in : bitsB scan (maskRow 3) 4 ≡ true
   unfolding masks maskRow
   allocation-in = eq-eqb (bitAnd allocation 0xff) allocation (and-mask allocation 8 ∙ omega arith)
 
-  in-mask : inMaskB (scanPacket unit allocation) 3 ≡ true
+  in-mask : inMaskB scan 3 ≡ true
   unfolding inMaskB masks maskRow
   in-mask = rw (unit-in, allocation-in)
 
-  scanned : (w : World) → houseOf w (Command (scanPacket unit allocation)) ≡ 0
-      → callOf w (Command (scanPacket unit allocation)) ≡ replyTo (Passes inquiry) w (scanPacket unit allocation)
+  scanned : (w : World) → houseOf w (Command scan) ≡ 0 → callOf w (Command scan) ≡ replyTo (Passes inquiry) w scan
   scanned w none =
-      accepted w (Command (scanPacket unit allocation)) none
-      ∙ by-mask (w .state .media) (w .state .host) (scanPacket unit allocation) refl
-      (λ v. replyTo v w (scanPacket unit allocation) ≡ replyTo (Passes inquiry) w (scanPacket unit allocation))
+      accepted w (Command scan) none
+      ∙ by-mask (w .state .media) (w .state .host) scan refl (λ v. replyTo v w scan ≡ replyTo (Passes inquiry) w scan)
       (λ _. refl)
       (λ out. absurd (false≢true (sym out ∙ in-mask)))
 
