@@ -9,9 +9,11 @@ use Rattle.disc.specs.Masks.{maskRow}
 use Rattle.ground.specs.First.{first}
 use Rattle.ground.specs.Bytes.{byteAt}
 use Rattle.state.specs.Senses.{unknownCode, otherUnit, powerTold, changeTold, noDisc, badField, notSaved, outOfRange, isProtected}
+use Rattle.state.specs.States.{listBytes}
 use Rattle.packet.specs.Fields.{addressOf, lengthOf}
 use Rattle.packet.specs.Rules.{ruleOf}
-use Rattle.packet.specs.declared.Values.the-variants.{Any, ZeroBits, Page}
+use Rattle.packet.specs.declared.Values.the-variants.{Any, ZeroBits, Page, FormatUnit}
+use Rattle.packet.specs.declared.Field.the-variants.{Bytes7To8}
 use Rattle.packet.specs.declared.Known.the-variants.{Unknown, Base}
 use Rattle.checks.specs.declared.Verdict.the-variants.{Passes, Fails}
 
@@ -30,17 +32,26 @@ belowB f (suc n) = belowB f n && f n
 unfoldable pub inMaskB : List ℕ → ℕ → Bool
 inMaskB p row = belowB (bitsB p (maskRow row)) 12
 
+-- not F of 04, Req 03: "17 in byte 1 bits 4-0, list length 12 and a track (byte 2) not past the last cylinder" of the disc that is in
+abbrev pub badFormatB : ℕ → List ℕ → Bool
+badFormatB number p =
+    not (eqb (byteAt p 1 % 32) 0x17)
+    || not (eqb (lengthOf Bytes7To8 p) listBytes)
+    || leb (formatOf number .cylinders) (byteAt p 2)
+
 -- not F: "1B has byte 4 bit 1 zero; 1E has byte 4 bit 0 zero; 5A has page (byte 2, bits 5-0) 05 or 3F"
-abbrev pub badValueB : Values → List ℕ → Bool
-badValueB Any p = false
-badValueB (ZeroBits bits) p = not (eqb (bitAnd (byteAt p 4) bits) 0)
-badValueB Page p = not (eqb (byteAt p 2 % 64) 0x05) && not (eqb (byteAt p 2 % 64) 0x3f)
+abbrev pub badValueB : ℕ → Values → List ℕ → Bool
+badValueB number Any p = false
+badValueB number (ZeroBits bits) p = not (eqb (bitAnd (byteAt p 4) bits) 0)
+badValueB number Page p = not (eqb (byteAt p 2 % 64) 0x05) && not (eqb (byteAt p 2 % 64) 0x3f)
+badValueB number FormatUnit p = badFormatB number p
 
 -- not F2: "5A has page control (byte 2, bits 7-6) not 3"
 abbrev pub badControlB : Values → List ℕ → Bool
 badControlB Any p = false
 badControlB (ZeroBits bits) p = false
 badControlB Page p = eqb (byteAt p 2 / 64) 3
+badControlB FormatUnit p = false
 
 -- not G: "address at most the last block, and address plus length at most the block count"
 abbrev pub pastEndB : ℕ → BlockAddress → ℕ → Bool
@@ -63,7 +74,7 @@ checksOf m h rule p =
     -- E
     ∷ (not (inMaskB p (rule .row)) gives badField)
     -- F
-    ∷ (badValueB (rule .values) p gives badField)
+    ∷ (badValueB (m .disc) (rule .values) p gives badField)
     -- F2
     ∷ (badControlB (rule .values) p gives notSaved)
     -- G

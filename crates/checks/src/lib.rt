@@ -1,8 +1,9 @@
 // Whether a packet may pass: the checks A to H.
 ghost use Rattle.ground.specs.Kit.{_≡_};
-ghost use Rattle.checks.specs.Verdicts.{otherUnitB, inMaskB, badValueB, badControlB, pastEndB, firstOf, checksOf, verdict};
+ghost use Rattle.checks.specs.Verdicts.{otherUnitB, inMaskB, badFormatB, badValueB, badControlB, pastEndB, firstOf, checksOf, verdict};
 use disc::BlockAddress;
 use ground::byte;
+use packet::Field;
 use packet::Known;
 use packet::Rule;
 use packet::Values;
@@ -41,9 +42,20 @@ fn in_mask(packet: &[u8], row: usize) -> bool
     true
 }
 
-// F fails: a bit that has to be zero is set, or there is no such page.
-fn bad_value(values: Values, packet: &[u8]) -> bool
-    ensures { λ r. ⌜ r ≡ badValueB values (now (packet .entry)) ⌝ }
+// F of FORMAT UNIT fails: byte 1 asks for another format, the list isn't of 12 bytes, or the disc has no such track.
+fn bad_format(number: u8, packet: &[u8]) -> bool
+    ensures { λ r. ⌜ r ≡ badFormatB number (now (packet .entry)) ⌝ }
+{
+    let format = disc::format_of(number);
+    let length = packet::length(Field::Bytes7To8, packet) as usize;
+    (byte(packet, 1) % 32 != 0x17)
+        | (length != state::LIST_BYTES)
+        | (format.cylinders <= (byte(packet, 2) as u16))
+}
+
+// F fails: a bit that has to be zero is set, there is no such page, or a field of FORMAT UNIT is wrong.
+fn bad_value(number: u8, values: Values, packet: &[u8]) -> bool
+    ensures { λ r. ⌜ r ≡ badValueB number values (now (packet .entry)) ⌝ }
 {
     match values {
         Values::Any => false,
@@ -52,6 +64,7 @@ fn bad_value(values: Values, packet: &[u8]) -> bool
             let page = byte(packet, 2) % 64;
             (page != 0x05) & (page != 0x3f)
         }
+        Values::FormatUnit => bad_format(number, packet),
     }
 }
 
@@ -63,6 +76,7 @@ fn bad_control(values: Values, packet: &[u8]) -> bool
         Values::Any => false,
         Values::ZeroBits(_) => false,
         Values::Page => byte(packet, 2) / 64 == 3,
+        Values::FormatUnit => false,
     }
 }
 
@@ -114,7 +128,7 @@ fn checked(media: Media, host: Host, rule: Rule, packet: &[u8]) -> Verdict
             Check(asked.attention & host.change, state::CHANGE),
             Check(asked.disc & (media.disc == 0), state::NO_DISC),
             Check(!in_mask(packet, rule.row), state::BAD_FIELD),
-            Check(bad_value(values, packet), state::BAD_FIELD),
+            Check(bad_value(media.disc, values, packet), state::BAD_FIELD),
             Check(bad_control(values, packet), state::NOT_SAVED),
             Check(asked.range & past, state::OUT_OF_RANGE),
             Check(asked.unprotected & media.protected, state::PROTECTED),

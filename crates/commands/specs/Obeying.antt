@@ -8,11 +8,11 @@ use Rattle.commands.specs.declared.{CommandReply.CommandReply}
 use Rattle.ground.specs.Bytes.{byteAt}
 use Rattle.ground.specs.Filling.{Filled}
 use Rattle.disc.specs.Formats.{placeOf, runBytes}
-use Rattle.state.specs.States.{obeyedOf}
+use Rattle.state.specs.States.{listBytes, obeyedOf}
 use Rattle.state.specs.Senses.{noSense}
-use Rattle.state.specs.declared.Transfer.the-variants.{Closed, Answer as AnswerFrom, Read as ReadFrom, Write as WriteTo}
+use Rattle.state.specs.declared.Transfer.the-variants.{Closed, Answer as AnswerFrom, Read as ReadFrom, Write as WriteTo, ParameterList as ListFor}
 use Rattle.packet.specs.Fields.{addressOf, lengthOf}
-use Rattle.packet.specs.declared.Routine.the-variants.{Nothing, Motor, Answer, Read, Write}
+use Rattle.packet.specs.declared.Routine.the-variants.{Nothing, Motor, Answer, Read, Write, ParameterList}
 use Rattle.checks.specs.Verdicts.{verdict}
 use Rattle.checks.specs.declared.Verdict.the-variants.{Passes, Fails}
 use Rattle.answer.specs.Giving.{giveOf}
@@ -36,13 +36,14 @@ abbrev pub answered : World → Filled → World
 answered w f = inBuffer (passing w (w .state .motor) (AnswerFrom (record { at = 0; left = f .count }))) (f .bytes)
 
 -- "1B sets the motor flag from byte 4 bit 0"; "28 and A8 (each a READ) open a read, 2A, 2E and AA (each a WRITE) a write";
--- "00, 01, 1E, 2B, 2F pass and do nothing more"
+-- "00, 01, 1E, 2B, 2F pass and do nothing more"; Req 03: 04 takes a "12-byte parameter list", for the track in byte 2
 abbrev pub routineOf : Routine → World → List ℕ → ℕ → World
 routineOf Nothing w p n = passing w (w .state .motor) Closed
 routineOf Motor w p n = passing w (eqb (byteAt p 4 % 2) 1) Closed
 routineOf (Answer a) w p n = answered w (giveOf a (w .state .media) (w .state .host .sense) p n (w .buffer))
 routineOf Read w p n = moving ReadFrom w p n
 routineOf Write w p n = moving WriteTo w p n
+routineOf ParameterList w p n = passing w (w .state .motor) (ListFor (record { track = byteAt p 2; left = listBytes }))
 
 unfoldable pub performedOf : Rule → World → List ℕ → World
 performedOf rule w p = routineOf (rule .routine) w p (lengthOf (rule .length) p)

@@ -13,6 +13,7 @@ use packet::Routine;
 use packet::Rule;
 use state::AnswerAt;
 use state::DiscAt;
+use state::ListAt;
 use state::State;
 use state::Transfer;
 
@@ -101,6 +102,13 @@ fn performed(state: State, rule: Rule, packet: &[u8], buffer: &mut [u8]) -> Stat
         }
         Routine::Read => passed(state, state.motor, Transfer::Read(blocks)),
         Routine::Write => passed(state, state.motor, Transfer::Write(blocks)),
+        Routine::ParameterList => {
+            let list = ListAt {
+                track: ground::byte(packet, 2),
+                left: state::LIST_BYTES,
+            };
+            passed(state, state.motor, Transfer::ParameterList(list))
+        }
     }
 }
 

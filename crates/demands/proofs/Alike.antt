@@ -13,7 +13,7 @@ use Rattle.disc.proofs.Discs.{few-blocks}
 use Rattle.packet.specs.Fields.{addressOf, lengthOf}
 use Rattle.packet.specs.Rules.{rules, ruleOf}
 use Rattle.packet.specs.declared.Field.the-variants.{Nowhere, Byte4, Bytes7To8, Bytes6To9}
-use Rattle.packet.specs.declared.Values.the-variants.{Any, ZeroBits, Page}
+use Rattle.packet.specs.declared.Values.the-variants.{Any, ZeroBits, Page, FormatUnit}
 use Rattle.packet.specs.declared.Known.the-variants.{Base}
 use Rattle.packet.proofs.BaseCommands.{ofKnown, of-base, opensB}
 use Rattle.checks.specs.Verdicts.{bitsB, belowB, inMaskB, checksOf, verdict}
@@ -48,6 +48,7 @@ abbrev anyB : Values → Bool
 anyB Any = true
 anyB (ZeroBits bits) = false
 anyB Page = false
+anyB FormatUnit = false
 
 -- byte i, if it is one of them, may have any bits
 abbrev freeB : Field → ℕ → ℕ → Bool
@@ -128,6 +129,7 @@ any-value : (v : Values) → anyB v ≡ true → v ≡ Any
 any-value Any e = refl
 any-value (ZeroBits bits) e = absurd (false≢true e)
 any-value Page e = absurd (false≢true e)
+any-value FormatUnit e = absurd (false≢true e)
 
 module _ (m : Media) (h : Host) (rule : Rule) (p : List ℕ) (opens : opensB (rule .routine) ≡ true) where
   -- a packet alike, of blocks that are among those of p

@@ -11,7 +11,7 @@ use Rattle.state.specs.declared.Transfer.the-variants.{Closed}
 use Rattle.packet.specs.Fields.{addressOf, lengthOf}
 use Rattle.packet.specs.Rules.{codeOf, rules, ruleOf}
 use Rattle.packet.specs.declared.Known.the-variants.{Base}
-use Rattle.packet.specs.declared.Routine.the-variants.{Nothing, Motor, Answer, Read, Write}
+use Rattle.packet.specs.declared.Routine.the-variants.{Nothing, Motor, Answer, Read, Write, ParameterList}
 use Rattle.packet.proofs.BaseCommands.{of-base, opensB, writesB}
 use Rattle.checks.specs.Verdicts.{checksOf, verdict}
 use Rattle.house.specs.World.{World, inState, inLent, Reply, reply}
@@ -78,6 +78,7 @@ is-read Motor e = absurd (false≢true e)
 is-read (Answer a) e = absurd (false≢true e)
 is-read Read e = refl
 is-read Write e = absurd (false≢true e)
+is-read ParameterList e = absurd (false≢true e)
 
 is-write : (r : Routine) → writesB r ≡ true → r ≡ Write
 is-write Nothing e = absurd (false≢true e)
@@ -85,6 +86,7 @@ is-write Motor e = absurd (false≢true e)
 is-write (Answer a) e = absurd (false≢true e)
 is-write Read e = absurd (false≢true e)
 is-write Write e = refl
+is-write ParameterList e = absurd (false≢true e)
 
 -- a device whose commands are ours
 abbrev pub OurCommands : Device → Type 0

@@ -8,11 +8,12 @@ use Rattle.sound.proofs.Opened.{in-buffer, on-disc, writes as sound-write}
 use Rattle.house.specs.World.{World}
 use Rattle.house.specs.Theorems.{Ready}
 use Rattle.moves.proofs.Spans.{open-sound}
-use Rattle.feeds.proofs.ByTransfer.{Feeding, idles, writes, feeding, feeds as fed}
+use Rattle.feeds.proofs.ByTransfer.{Feeding, idles, writes, lists, feeding, feeds as fed}
 use Rattle.pulls.proofs.ByTransfer.{Pulling, idles as unpulled, answers, reads, pulling, pulls as pulled}
 use Rattle.drive.specs.Calls.{Call, Feed, Pull}
 use Rattle.demands.specs.Device.{Device}
 use Rattle.demands.specs.Uncut.{Lent, lent, lendAll, CutAnywhere}
+use Rattle.demands.proofs.CutLists.{FirstApart, list-nothing, list-first}
 use Rattle.demands.proofs.Serving.{
   lendOne,
   join,
@@ -33,10 +34,11 @@ use Rattle.demands.proofs.Serving.{
 
 -- ---- what a lending finds
 
--- nothing that it serves, or an open transfer, which has at least one byte left
+-- nothing that it serves, or an open transfer, which has at least one byte left; or a list, which is judged with its last
 pub data Lending (d : Device) (way : List ℕ → Call) (w : World) : Type 0 where
   idle : ((x : List ℕ) → lendOne d way w x ≡ lent 0 x w) → Lending d way w
   busy : {k : Kind} → Serves d way k → (at left : ℕ) → 0 < left → w .state .transfer ≡ k .transfer at left → Lending d way w
+  judging : lendOne d way w [] ≡ lent 0 [] w → FirstApart d way w → Lending d way w
 
 module _ (w : World) (r : Ready w) where
   -- a feed serves a write
@@ -45,6 +47,7 @@ module _ (w : World) (r : Ready w) where
   feed-finds f (writes p e) =
       let o = sound-write (w .state .media) p (open-sound w r (Write p) e) in
       busy (feed-served f) (p .at .0) (p .left) (o .on .some) e
+  feed-finds f (lists p e) = judging (list-nothing f w r p e) (list-first f w r p e)
 
   -- a pull serves a read and an answer
   pull-finds : {d : Device} {reads answers : Gives} → Pulls d reads answers → Pulling (w .state .transfer) → Lending d Pull w
@@ -73,15 +76,15 @@ module _ {d : Device} {way : List ℕ → Call} (w : World) (r : Ready w) where
   -- to lend nothing changes nothing
   nothing : Lending d way w → lendOne d way w [] ≡ lent 0 [] w
   nothing (idle same) = same []
+  nothing (judging none _) = none
   nothing (busy s at left some e) =
       let st = stands s at left some e in
       lends s w at left st [] r ∙ unmoved s w at left st [] (omega arith)
 
   -- the first byte and then the others
-  first : Lending d way w → (x : ℕ) (xs : List ℕ)
-      → let one = lendOne d way w (x ∷ []) in
-      Ready (one .world) → lendOne d way w (x ∷ xs) ≡ join one (lendOne d way (one .world) xs)
+  first : Lending d way w → FirstApart d way w
   unfolding movedOf
+  first (judging _ apart) x xs r₁ = apart x xs r₁
   first (idle same) x xs r₁ = same (x ∷ xs) ∙ sym (then d way w (x ∷ []) xs _ _ (same (x ∷ [])) (same xs))
   first (busy {k} s at left some e) x xs r₁ =
       let st = stands s at left some e in

@@ -1,10 +1,10 @@
 -- Devices that break one demand alone. Assumes nothing.
-use Rattle.ground.specs.Kit.{_≡_, refl, sym, ap, _∙_, Bool, true, false, false≢true, cond, List, [], _∷_, ℕ, arith, eqb-true, ne-eqb, eqb, length, length-set, length-replicate, take, set, take-set-le}
+use Rattle.ground.specs.Kit.{_≡_, refl, sym, ap, subst, _∙_, Bool, true, false, false≢true, cond, List, [], _∷_, ℕ, arith, eqb-true, ne-eqb, eqb, length, length-set, length-replicate, take, set, take-set-le}
 use Rattle.state.specs.declared.{DiscAt.DiscAt, Transfer.Transfer}
 use Rattle.ground.specs.Bytes.{zeros}
 use Rattle.disc.specs.Formats.{blockBytes}
 use Rattle.disc.proofs.Discs.{block-fits}
-use Rattle.state.specs.declared.Transfer.the-variants.{Closed, Answer, Read, Write}
+use Rattle.state.specs.declared.Transfer.the-variants.{Closed, Answer, Read, Write, ParameterList}
 use Rattle.state.specs.Senses.{noSense}
 use Rattle.state.specs.States.{mediaOf, hostOf, stateOf, powerOn, closedAtZero, movedOf}
 use Rattle.state.proofs.Closing.{by-left}
@@ -13,17 +13,16 @@ use Rattle.house.specs.World.{World, inState, inBuffer, someWorld, Reply, reply
 use Rattle.house.specs.Refusals.{ejectTests}
 use Rattle.house.specs.Theorems.{Ready}
 use Rattle.moves.specs.Replies.{discAfter}
-use Rattle.feeds.specs.Feeding.{writeFed}
-use Rattle.feeds.proofs.ByTransfer.{by-feeding}
+use Rattle.feeds.specs.Feeding.{writeFed, feedBy}
 use Rattle.pulls.specs.Pulling.{gives}
 use Rattle.drive.specs.Calls.{Call, Insert, Eject, Command, Feed, Pull, returned, houseOf, callOf}
 use Rattle.drive.proofs.Calling.{by-call, refused}
 use Rattle.drive.proofs.Staying.{stays}
 use Rattle.demands.specs.Answered.{eventB, Answered}
-use Rattle.demands.specs.Ledger.{Store, Ledger}
+use Rattle.demands.specs.Ledger.{Store, none, Ledger, listedIn}
 use Rattle.demands.specs.Uncut.{Cuttings}
-use Rattle.demands.specs.Wrong.{feeding, leaving, versionThree}
-use Rattle.demands.specs.Independent.{marked, marksFeeds, startsAnew, Independent}
+use Rattle.demands.specs.Wrong.{feeding, leaving, storesBytes, versionThree}
+use Rattle.demands.specs.Independent.{marked, marking, marksFeeds, startsAnew, Independent}
 use Rattle.demands.proofs.Answered.{answered}
 use Rattle.demands.proofs.Agreeing.{GatheredIn, Agrees}
 use Rattle.demands.proofs.AsOurs.{AsOurs}
@@ -31,7 +30,7 @@ use Rattle.demands.proofs.Faithful.{faithful-as}
 use Rattle.demands.proofs.Carrying.{cuttings, disc-gives}
 use Rattle.demands.proofs.CutApart.{apart}
 use Rattle.demands.proofs.Wrong.{excluded}
-use Rattle.demands.proofs.Obeyed.{feeds-as, pulls-as, stored, obeyed}
+use Rattle.demands.proofs.Obeyed.{feeds-as, pulls-as, by-write, stored, obeyed}
 
 -- ---- a device that feeds otherwise than ours
 
@@ -78,6 +77,7 @@ marked-gathered : (number : ℕ) (buffer disc : List ℕ) (stored : Store) (x : 
 marked-gathered number buffer disc stored x Closed g = tt
 marked-gathered number buffer disc stored x (Answer p) g = tt
 marked-gathered number buffer disc stored x (Read p) g = tt
+marked-gathered number buffer disc stored x (ParameterList p) g = tt
 marked-gathered number buffer disc stored x (Write p) g =
     record {
       at = g .at;
@@ -89,7 +89,8 @@ marked-gathered number buffer disc stored x (Write p) g =
     }
 
 module _ (u : World) (l : Ledger) (a : Agrees u l)
-    (nothing : (b : List ℕ) → gives b (u .disc) (u .state .transfer) ≡ gives (u .buffer) (u .disc) (u .state .transfer)) where
+    (nothing : (b : List ℕ) → gives b (u .disc) (u .state .transfer) ≡ gives (u .buffer) (u .disc) (u .state .transfer))
+    (unlisted : (b : List ℕ) → listedIn b (u .state .transfer) ≡ listedIn (u .buffer) (u .state .transfer)) where
   marked-agrees : (xs : List ℕ) → Agrees (inBuffer u (marked (u .buffer) xs)) l
   marked-agrees [] = a
   marked-agrees (x ∷ xs) =
@@ -104,49 +105,56 @@ module _ (u : World) (l : Ledger) (a : Agrees u l)
           giving = o .giving ∙ sym same;
           all = rw same (o .all);
           gathered = marked-gathered (u .state .media .disc) (u .buffer) (u .disc) (l .stored) x (u .state .transfer) (o .gathered);
+          listed = o .listed ∙ sym (unlisted (set (u .buffer) 1023 x));
         };
       }
 
--- a write gives nothing, and has closed or not
+-- a write gives nothing and is no list, and has closed or not
 write-gives : (p : DiscAt) (buffer disc : List ℕ) → gives buffer disc (closedAtZero (Write p)) ≡ []
 write-gives p buffer disc = by-left (λ t. gives buffer disc t ≡ []) (Write p) (λ _. refl) (λ _. refl)
 
--- our reply to a feed, marked
-abbrev marking : List ℕ → Reply → World
-marking x a = inBuffer (a .world) (marked (a .world .buffer) (take (a .heard .count) x))
+write-unlisted : (p : DiscAt) (buffer : List ℕ) → listedIn buffer (closedAtZero (Write p)) ≡ none
+write-unlisted p buffer = by-left (λ t. listedIn buffer t ≡ none) (Write p) (λ _. refl) (λ _. refl)
 
-fed-agrees : (w : World) (x : List ℕ) (l : Ledger) → Agrees (callOf w (Feed x) .world) l → Agrees (marking x (callOf w (Feed x))) l
+fed-agrees : (w : World) (x : List ℕ) (l : Ledger) (p : DiscAt) → w .state .transfer ≡ Write p → Agrees (callOf w (Feed x) .world) l
+    → Agrees (marking p w x (callOf w (Feed x)) .world) l
 unfolding movedOf
-fed-agrees w x l = by-call w (Feed x) Kept (λ _ a. a) (λ _. by-feeding w x Kept (λ _ a. a) writes)
+fed-agrees w x l p e = by-call w (Feed x) Kept (λ _ a. a) (λ _. subst (λ (t : Transfer). Kept (feedBy t w x)) (sym e) writes)
   where
     Kept : Reply → Type 0
-    Kept a = Agrees (a .world) l → Agrees (marking x a) l
+    Kept a = Agrees (a .world) l → Agrees (marking p w x a .world) l
 
-    writes : (p : DiscAt) → w .state .transfer ≡ Write p → Kept (writeFed p w x)
-    writes p e a =
+    writes : Kept (writeFed p w x)
+    writes a =
         let fed = writeFed p w x in
-        let none = write-gives (discAfter p (fed .heard .count)) in
-        marked-agrees (fed .world) l a (λ b. none b (fed .world .disc) ∙ sym (none (fed .world .buffer) (fed .world .disc))) (take (fed .heard .count) x)
+        let rest = discAfter p (fed .heard .count) in
+        let empty = write-gives rest in
+        marked-agrees (fed .world) l a (λ b. empty b (fed .world .disc) ∙ sym (empty (fed .world .buffer) (fed .world .disc)))
+        (λ b. write-unlisted rest b ∙ sym (write-unlisted rest (fed .world .buffer)))
+        (take (fed .heard .count) x)
 
 marks : AsOurs marksFeeds
 marks =
     record {
       start = refl;
-      heard = by-fed _ (λ w c a. a .heard ≡ callOf w c .heard) (λ w c. refl) (λ w x. refl);
-      state = by-fed _ (λ w c a. soundB (w .state) ≡ true → a .world .state ≡ callOf w c .world .state) (λ w c sound. refl) (λ w x sound. refl);
+      heard = by-fed _ (λ w c a. a .heard ≡ callOf w c .heard) (λ w c. refl)
+          (λ w x. by-write marking w x (λ a. a .heard ≡ callOf w (Feed x) .heard) refl (λ p e. refl));
+      state = by-fed _ (λ w c a. soundB (w .state) ≡ true → a .world .state ≡ callOf w c .world .state) (λ w c sound. refl)
+          (λ w x sound. by-write marking w x (λ a. a .world .state ≡ callOf w (Feed x) .world .state) refl (λ p e. refl));
       agrees = by-fed _ (λ w c a. soundB (w .state) ≡ true → (l : Ledger) → Agrees (callOf w c .world) l → Agrees (a .world) l) (λ w c sound l a. a)
-          (λ w x sound. fed-agrees w x);
+          (λ w x sound l g. by-write marking w x (λ a. Agrees (a .world) l) g (λ p e. fed-agrees w x l p e g));
     }
 
 marks-answered : Answered marksFeeds
 marks-answered =
-    answered-feeding _ (λ w x. refl)
-    (λ w x some. rw (refused w (Feed x) some))
-    (λ w x. refl)
+    answered-feeding _ (λ w x. by-write marking w x (λ a. a .heard .house ≡ callOf w (Feed x) .heard .house) refl (λ p e. refl))
+    (λ w x some. by-write marking w x (λ a. a ≡ callOf w (Feed x)) refl (λ p e. rw (refused w (Feed x) some)))
+    (λ w x. by-write marking w x (λ a. a .world .state ≡ callOf w (Feed x) .world .state) refl (λ p e. refl))
     (λ w x r.
     let a = callOf w (Feed x) in
     let q = stays w (Feed x) r in
-    record { sound = q .sound; buffer = marked-length (a .world .buffer) (take (a .heard .count) x) ∙ q .buffer; disc = q .disc })
+    by-write marking w x (λ a. Ready (a .world)) q
+    (λ p e. record { sound = q .sound; buffer = marked-length (a .world .buffer) (take (a .heard .count) x) ∙ q .buffer; disc = q .disc }))
 
 -- ---- version three
 
@@ -162,9 +170,14 @@ by-leaving P a v accepted same = here (eqb (a .heard .house) 0) refl
 three-answered : Answered versionThree
 three-answered =
     answered-feeding _
-    (λ w x. let a = callOf w (Feed x) in by-leaving (λ r. r .heard .house ≡ a .heard .house) a _ sym refl)
-    (λ w x some. rw (refused w (Feed x) some, ne-eqb (houseOf w (Feed x)) 0 some))
-    (λ w x. let a = callOf w (Feed x) in by-leaving (λ r. r .world .state ≡ a .world .state) a _ (λ _. refl) refl)
+    (λ w x.
+    let a = callOf w (Feed x) in
+    by-write storesBytes w x (λ r. r .heard .house ≡ a .heard .house) refl (λ p e. by-leaving (λ r. r .heard .house ≡ a .heard .house) a _ sym refl))
+    (λ w x some.
+    by-write storesBytes w x (λ a. a ≡ callOf w (Feed x)) refl (λ p e. rw (refused w (Feed x) some, ne-eqb (houseOf w (Feed x)) 0 some)))
+    (λ w x.
+    let a = callOf w (Feed x) in
+    by-write storesBytes w x (λ r. r .world .state ≡ a .world .state) refl (λ p e. by-leaving (λ r. r .world .state ≡ a .world .state) a _ (λ _. refl) refl))
     (stored .ready)
 
 -- ---- the device that starts anew

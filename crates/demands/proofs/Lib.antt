@@ -1,15 +1,18 @@
 pub mod Answered
 pub mod BlockLists
 pub mod Gathering
+pub mod Reformatting
 pub mod Agreeing
 pub mod AsOurs
 pub mod Announced
 pub mod Meeting
 pub mod Opening
+pub mod Listed
 pub mod Moving
 pub mod Foretelling
 pub mod Faithful
 pub mod Serving
+pub mod CutLists
 pub mod Cutting
 pub mod Alike
 pub mod Carrying
@@ -18,6 +21,7 @@ pub mod AnyWorld
 pub mod Sufficing
 pub mod Together
 pub mod OnDisc4
+pub mod WrongLists
 pub mod Wrong
 pub mod Obeyed
 pub mod CutApart

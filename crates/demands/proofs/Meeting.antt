@@ -3,7 +3,7 @@ use Rattle.ground.specs.Kit.{_≡_, refl, sym, List, flatten, ℕ, _+_, _≤_, 
 use Rattle.state.specs.declared.{Transfer.Transfer}
 use Rattle.disc.specs.Formats.{formatOf, blockBytes, runBytes, discBytes}
 use Rattle.disc.proofs.Discs.{block-fits, block-holds}
-use Rattle.state.specs.declared.Transfer.the-variants.{Closed, Answer, Read, Write}
+use Rattle.state.specs.declared.Transfer.the-variants.{Closed, Answer, Read, Write, ParameterList}
 use Rattle.state.specs.States.{leftOf}
 use Rattle.house.specs.World.{World}
 use Rattle.house.specs.Theorems.{Ready}
@@ -44,6 +44,7 @@ module _ (w : World) (r : Ready w) where
   gathered Closed e = tt
   gathered (Answer p) e = tt
   gathered (Read p) e = tt
+  gathered (ParameterList p) e = tt
   gathered (Write p) e =
       let whole = may-write w r p e .span .whole in
       let short = mod-lt (p .at .0) (block-holds number (whole .low) (whole .high)) in
@@ -63,6 +64,7 @@ module _ (w : World) (r : Ready w) where
   all-left (Answer p) e = source-long (w .buffer) (p .at) (p .left) (may-answer w r p e .within)
   all-left (Read p) e = source-long (w .disc) (p .at .0) (p .left) (may-read w r p e .within)
   all-left (Write p) e = add-zero (p .left)
+  all-left (ParameterList p) e = add-zero (p .left)
 
   -- whatever is open, the blocks are the disc's
   same-blocks : (t : Transfer) → storedIn size (w .buffer) blocks t .blocks ≡ blocks
@@ -70,6 +72,7 @@ module _ (w : World) (r : Ready w) where
   same-blocks (Answer p) = refl
   same-blocks (Read p) = refl
   same-blocks (Write p) = refl
+  same-blocks (ParameterList p) = refl
 
   pub agrees-met : Agrees w (ledgerOf w)
   agrees-met =
@@ -82,5 +85,6 @@ module _ (w : World) (r : Ready w) where
           giving = refl;
           all = all-left (w .state .transfer) refl;
           gathered = gathered (w .state .transfer) refl;
+          listed = refl;
         };
       }

@@ -2,18 +2,20 @@
 use Rattle.ground.specs.Kit.{_≡_, refl, sym, ap, _∙_, Bool, true, false, List, [], _∷_, _++_, ℕ, _+_, arith, eqb, length, take, replicate, length-replicate, replicate-append-replicate, sets, length-sets}
 use Rattle.state.specs.declared.{DiscAt.DiscAt, Transfer.Transfer}
 use Rattle.ground.proofs.Parts.{sets-more}
-use Rattle.state.specs.declared.Transfer.the-variants.{Closed, Answer as AnswerFrom, Read, Write}
+use Rattle.state.specs.declared.Transfer.the-variants.{Closed, Answer as AnswerFrom, Read, Write, ParameterList}
 use Rattle.state.specs.States.{stateOf}
-use Rattle.house.specs.World.{World, inState, inDisc}
+use Rattle.house.specs.World.{World, inState, inDisc, Reply}
 use Rattle.house.specs.Theorems.{Ready}
 use Rattle.house.proofs.Houses.{ready-in}
+use Rattle.moves.specs.Replies.{idle}
+use Rattle.feeds.specs.Feeding.{writeFed, feedOf}
 use Rattle.drive.specs.Calls.{Command, Feed, Pull, callOf}
 use Rattle.drive.proofs.Calling.{numbered}
 use Rattle.drive.proofs.Staying.{keeps, fed-media}
 use Rattle.demands.specs.Device.{Device, drive}
 use Rattle.demands.specs.Uncut.{Lent, lent, carried, Part}
-use Rattle.demands.specs.Wrong.{handsOutZeros, discardsFeeds, firstBlockOnly, firstPullOnly, pulledOnce, versionOne, storedAt, versionThree, OnePullEach, Obeyed}
-use Rattle.demands.proofs.Serving.{lendOne, Puts, written, Feeds, ourPuts, our-feeds, Gives, Given, Pulls, fromDisc, fromBuffer, our-pulls}
+use Rattle.demands.specs.Wrong.{handsOutZeros, discardsFeeds, firstBlockOnly, firstPullOnly, pulledOnce, byOpen, feedingWrites, versionOne, versionThree, OnePullEach, Obeyed}
+use Rattle.demands.proofs.Serving.{lendOne, moving, Puts, written, feeding, Put, Feeds, ourPuts, our-feeds, Gives, Given, Pulls, fromDisc, fromBuffer, our-pulls}
 use Rattle.demands.proofs.Cutting.{cut-anywhere, feed-way, pull-way}
 use Rattle.demands.proofs.Carrying.{All, Same, reads-cut-by, cuttings, disc-gives}
 
@@ -27,6 +29,7 @@ module _ (d : Device) where
         ready = λ w x r. rw (same w x r) (our-feeds .ready w x r);
         unfed = λ w x r e. rw (same w x r) (our-feeds .unfed w x r e);
         fed = λ w p x r e f. rw (same w x r) (our-feeds .fed w p x r e f);
+        lists = λ w p x r e. same w x r;
       }
 
   pub pulls-as : ((w : World) (x : List ℕ) → Ready w → d .call w (Pull x) ≡ callOf w (Pull x)) → Pulls d fromDisc fromBuffer
@@ -84,38 +87,57 @@ module _ (w : World) (x : List ℕ) (r : Ready w) where
   accepted : callOf w (Feed x) .heard .house ≡ 0
   accepted = numbered w (Feed x) ∙ ready-in w r
 
+-- a device that alters what our feed of an open write leaves
+module _ (f : DiscAt → World → List ℕ → Reply → Reply) where
+  abbrev it : Device
+  it = feedingWrites f
+
+  -- what holds of our reply, and of it altered, holds of its reply
+  pub by-write : (w : World) (x : List ℕ) (P : Reply → Type 0) → P (callOf w (Feed x))
+      → ((p : DiscAt) → w .state .transfer ≡ Write p → P (f p w x (callOf w (Feed x)))) → P (it .call w (Feed x))
+  by-write w x P same writes = here (w .state .transfer) refl
+    where
+      a : Reply
+      a = callOf w (Feed x)
+
+      here : (t : Transfer) → w .state .transfer ≡ t → P (byOpen (λ p. a) (λ p. f p w x a) (λ p. a) a t)
+      here Closed e = same
+      here (AnswerFrom p) e = same
+      here (Read p) e = same
+      here (Write p) e = writes p e
+      here (ParameterList p) e = same
+
+  alters : (puts : Puts) → Put puts
+      → ((w : World) (p : DiscAt) (x : List ℕ) → feedOf w x ≡ idle w x → f p w x (callOf w (Feed x)) ≡ idle w x)
+      → ((w : World) (p : DiscAt) (x : List ℕ) → Ready w → w .state .transfer ≡ Write p → Ready (f p w x (callOf w (Feed x)) .world))
+      → ((w : World) (p : DiscAt) (x : List ℕ) → Ready w → feedOf w x ≡ writeFed p w x → w .state .transfer ≡ Write p
+      → lendOne it Feed w x ≡ moving (feeding puts) w (p .at .0) (p .left) x)
+      → Feeds it puts
+  unfolding callOf
+  alters puts put idles ready fed =
+      record {
+        put = put;
+        ready = λ w x r. by-write w x (λ a. Ready (a .world)) (our-feeds .ready w x r) (λ p e. ready w p x r e);
+        unfed = λ w x r e. by-write w x (λ a. lent (a .heard .count) (a .heard .out) (a .world) ≡ lent 0 x w) (rw e) (λ p q. rw (idles w p x e));
+        fed = fed;
+        lists = λ w p x r e. rw e;
+      }
+
 discarded : Feeds discardsFeeds discards
 unfolding callOf
 discarded =
-    record {
-      put = record { none = λ number at buffer disc. refl; more = λ number at x y buffer disc. refl };
-      ready = λ w x r. rw (accepted w x r) (still-ready w x r (w .disc) refl);
-      unfed = λ w x r e. rw e;
-      fed = λ w p x r e f. rw e;
-    }
-
--- what holds of bytes set on the disc and of the disc as it was
-by-stored : (P : List ℕ → Type 0) (t : Transfer) (disc x : List ℕ) (n : ℕ) → ((p : DiscAt) → P (sets disc (p .at .0) (take n x))) → P disc → P (storedAt t disc x n)
-by-stored P Closed disc x n writes other = other
-by-stored P (AnswerFrom p) disc x n writes other = other
-by-stored P (Read p) disc x n writes other = other
-by-stored P (Write p) disc x n writes other = writes p
-
-stored-none : (t : Transfer) (disc x : List ℕ) → storedAt t disc x 0 ≡ disc
-stored-none t disc x = by-stored (λ l. l ≡ disc) t disc x 0 (λ p. refl) refl
-
-stored-length : (t : Transfer) (disc x : List ℕ) (n : ℕ) → length (storedAt t disc x n) ≡ length disc
-stored-length t disc x n = by-stored (λ l. length l ≡ length disc) t disc x n (λ p. length-sets disc (p .at .0) (take n x)) refl
+    alters _ discards (record { none = λ number at buffer disc. refl; more = λ number at x y buffer disc. refl })
+    (λ w p x e. rw e)
+    (λ w p x r e. rw (accepted w x r) (still-ready w x r (w .disc) refl))
+    (λ w p x r e f. rw (e, f))
 
 pub stored : Feeds versionThree stores
 unfolding callOf
 stored =
-    record {
-      put = record { none = λ number at buffer disc. refl; more = λ number at x y buffer disc. rw (sets-more x y disc at) };
-      ready = λ w x r. rw (accepted w x r) (still-ready w x r _ (stored-length (w .state .transfer) (w .disc) x (callOf w (Feed x) .heard .count)));
-      unfed = λ w x r e. rw (e, stored-none (w .state .transfer) (w .disc) x);
-      fed = λ w p x r e f. rw (e, f);
-    }
+    alters _ stores (record { none = λ number at buffer disc. refl; more = λ number at x y buffer disc. rw (sets-more x y disc at) })
+    (λ w p x e. rw e)
+    (λ w p x r e. rw (accepted w x r) (still-ready w x r _ (length-sets (w .disc) (p .at .0) (take (callOf w (Feed x) .heard .count) x))))
+    (λ w p x r e f. rw (e, f))
 
 -- ---- the device that serves only the first pull
 

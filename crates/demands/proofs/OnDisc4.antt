@@ -1,12 +1,12 @@
 -- What our drive does over any block buffer and any disc 4: by computation. Assumes nothing.
-use Rattle.ground.specs.Kit.{_≡_, refl, ap, Bool, true, false, List, [], _∷_, _++_, ℕ, min, length, take, drop, length-drop}
+use Rattle.ground.specs.Kit.{_≡_, refl, ap, Bool, true, false, List, [], _∷_, _++_, ℕ, min, length, take, drop, length-drop, replicate}
 use Rattle.state.specs.declared.{Sense.Sense, Transfer.Transfer}
 use Rattle.disc.specs.Formats.{bufferBytes, formatOf, blockBytes, runBytes, discBytes, placeOf}
 use Rattle.disc.specs.Masks.{masks, maskRow}
-use Rattle.state.specs.declared.Transfer.the-variants.{Closed, Answer, Read, Write}
+use Rattle.state.specs.declared.Transfer.the-variants.{Closed, Answer, Read, Write, ParameterList}
 use Rattle.state.specs.Senses.{noSense, unknownCode, changeTold, namedB}
 use Rattle.state.specs.States.{mediaOf, hostOf, stateOf, noMedia, insertedOf, obeyedOf}
-use Rattle.sound.specs.Soundness.{onDiscB, endsOnBlockB, openSoundB, soundB}
+use Rattle.sound.specs.Soundness.{onDiscB, endsOnBlockB, listSoundB, openSoundB, soundB}
 use Rattle.packet.specs.Fields.{addressOf, lengthOf}
 use Rattle.packet.specs.Rules.{rules, ruleOf}
 use Rattle.checks.specs.Verdicts.{inMaskB, checksOf, verdict}
@@ -43,7 +43,8 @@ module _ {d : Device} {r : Run} (a : Accounted d r) where
       let count = ap (λ (h : Heard). h .count) e in
       (count, rw count (ap (λ (h : Heard). h .out) e))
 
--- TEST UNIT READY, INQUIRY of no bytes, INQUIRY of one byte to a unit, a code that is unknown, READ of some blocks and WRITE of the first two
+-- TEST UNIT READY, INQUIRY of no bytes, INQUIRY of one byte to a unit, a code that is unknown, READ of some blocks, WRITE of the first two and
+-- FORMAT UNIT of track 3
 abbrev pub test : List ℕ
 test = bytes2And4 0x00 0 0
 
@@ -61,6 +62,12 @@ read from n = lengthAt7 0x28 from n
 
 abbrev pub write : List ℕ
 write = lengthAt7 0x2a 0 2
+
+abbrev pub format : List ℕ
+format = 0x04 ∷ 0x17 ∷ 3 ∷ replicate 5 0 ++ 12 ∷ replicate 3 0
+
+abbrev pub listing : Transfer
+listing = ParameterList (record { track = 3; left = 12 })
 
 abbrev pub reading : ℕ → ℕ → Transfer
 reading at left = Read (record { at = record { 0 = at }; left = left })
@@ -112,7 +119,8 @@ module _ (w : World) (disc : List ℕ) where
     pub reads-two : callOf (open4 Closed) (Command (read 0 2)) ≡ passes (open4 (reading 0 1024))
     pub reads-three : callOf (open4 Closed) (Command (read 0 3)) ≡ passes (open4 (reading 0 1536))
     pub writes : callOf (open4 Closed) (Command write) ≡ passes (open4 (writing 0 1024))
-    -- pulls of an open answer, of an open READ and with nothing open, feeds of a WRITE of one block and of two
+    pub formats : callOf (open4 Closed) (Command format) ≡ passes (open4 listing)
+    -- pulls of an open answer, of an open READ and with nothing open, feeds of a WRITE of one block and of two, and of a list
     pub pulls-answer : (byte : ℕ) (out : List ℕ) → callOf (answering4 byte) (Pull out) ≡ pullBy (answering4 byte .state .transfer) (answering4 byte) out
     pub pulls : (out : List ℕ) → callOf (open4 (reading 0 512)) (Pull out) ≡ pullBy (reading 0 512) (open4 (reading 0 512)) out
     pub pulls-third : (out : List ℕ) → callOf (open4 (reading 1024 512)) (Pull out) ≡ pullBy (reading 1024 512) (open4 (reading 1024 512)) out
@@ -120,10 +128,11 @@ module _ (w : World) (disc : List ℕ) where
     pub feeds-one : (piece : List ℕ) → callOf (open4 (writing 0 512)) (Feed piece) ≡ feedBy (writing 0 512) (open4 (writing 0 512)) piece
     pub feeds : (piece : List ℕ) → callOf (open4 (writing 0 1024)) (Feed piece) ≡ feedBy (writing 0 1024) (open4 (writing 0 1024)) piece
     pub feeds-on : (piece : List ℕ) → callOf (open4 (writing 1 1023)) (Feed piece) ≡ feedBy (writing 1 1023) (open4 (writing 1 1023)) piece
+    pub feeds-list : (piece : List ℕ) → callOf (open4 listing) (Feed piece) ≡ feedBy listing (open4 listing) piece
 
   module _ (b : length (w .buffer) ≡ bufferBytes) (d : length disc ≡ 32768) where
     pub ours : Ours
-    unfolding callOf formatOf blockBytes runBytes discBytes placeOf masks maskRow namedB insertedOf obeyedOf onDiscB endsOnBlockB openSoundB soundB addressOf lengthOf rules ruleOf inMaskB checksOf verdict inquiryData answerOf allocationOf giveOf moveTests commandTests insertTests insertOf spanOf performedOf commandOf feedOf pullOf
+    unfolding callOf formatOf blockBytes runBytes discBytes placeOf masks maskRow namedB insertedOf obeyedOf onDiscB endsOnBlockB listSoundB openSoundB soundB addressOf lengthOf rules ruleOf inMaskB checksOf verdict inquiryData answerOf allocationOf giveOf moveTests commandTests insertTests insertOf spanOf performedOf commandOf feedOf pullOf
     ours =
         record {
           inserts = rw d;
@@ -142,6 +151,7 @@ module _ (w : World) (disc : List ℕ) where
           reads-two = rw (b, d);
           reads-three = rw (b, d);
           writes = rw (b, d);
+          formats = rw (b, d);
           pulls-answer = λ byte out. rw (length-drop 1 (w .buffer), b, d);
           pulls = λ out. rw (b, d);
           pulls-third = λ out. rw (b, d);
@@ -149,6 +159,7 @@ module _ (w : World) (disc : List ℕ) where
           feeds-one = λ piece. rw (b, d);
           feeds = λ piece. rw (b, d);
           feeds-on = λ piece. rw (b, d);
+          feeds-list = λ piece. rw (b, d);
         }
 
     -- the worlds that runs are met in
@@ -167,3 +178,7 @@ module _ (w : World) (disc : List ℕ) where
     pub ready-writing : Ready (open4 (writing 0 1024))
     unfolding openSoundB onDiscB endsOnBlockB formatOf blockBytes runBytes discBytes
     ready-writing = ready4 false (writing 0 1024) refl
+
+    pub ready-listing : Ready (open4 listing)
+    unfolding openSoundB listSoundB formatOf
+    ready-listing = ready4 false listing refl

@@ -1,19 +1,19 @@
 -- What a command opens is what the ledger takes and gives from then on. Assumes nothing.
 use Rattle.ground.specs.Kit.{_≡_, refl, sym, ap, subst, _∙_, Bool, true, false, cond, List, [], flatten, ℕ, _+_, _*_, _/_, _%_, _≤_, min, add-zero, arith, leb-true, leb-false, eqb, leb, lit≤, length, take, drop, length-drop, length-take-le, set, take-all, take-at}
-use Rattle.state.specs.declared.{Media.Media, Transfer.Transfer}
+use Rattle.state.specs.declared.{Media.Media, ListAt.ListAt, Transfer.Transfer}
 use Rattle.packet.specs.declared.{Rule.Rule, Answering.Answering, Routine.Routine}
 use Rattle.checks.specs.declared.{Verdict.Verdict}
 use Rattle.ground.specs.Bytes.{byteAt}
 use Rattle.disc.specs.Formats.{blockBytes, runBytes, placeOf, bufferBytes}
 use Rattle.disc.proofs.Discs.{block-fits, block-holds, run-within}
 use Rattle.state.specs.declared.Sense as state
-use Rattle.state.specs.declared.Transfer.the-variants.{Closed, Answer as AnswerFrom, Read as ReadFrom, Write as WriteTo}
+use Rattle.state.specs.declared.Transfer.the-variants.{Closed, Answer as AnswerFrom, Read as ReadFrom, Write as WriteTo, ParameterList as ListFor}
 use Rattle.state.specs.Senses.{noSense}
-use Rattle.state.specs.States.{told, obeyedOf}
+use Rattle.state.specs.States.{listBytes, leftOf, told, obeyedOf}
 use Rattle.sound.proofs.Keeping.{parts}
 use Rattle.packet.specs.Fields.{addressOf, lengthOf}
 use Rattle.packet.specs.declared.Answering.the-variants.{Sense, Inquiry, FormatCapacities, Capacity, Mode}
-use Rattle.packet.specs.declared.Routine.the-variants.{Nothing, Motor, Answer, Read, Write}
+use Rattle.packet.specs.declared.Routine.the-variants.{Nothing, Motor, Answer, Read, Write, ParameterList}
 use Rattle.packet.proofs.BaseCommands.{opensB}
 use Rattle.checks.specs.Verdicts.{verdict}
 use Rattle.checks.specs.declared.Verdict.the-variants.{Passes, Fails}
@@ -28,7 +28,7 @@ use Rattle.feeds.specs.Feeding.{writing}
 use Rattle.drive.specs.Calls.{Command}
 use Rattle.drive.proofs.Calling.{acceptedOf}
 use Rattle.drive.proofs.Commanded.{performed-sense}
-use Rattle.demands.specs.Ledger.{Store, store, Ledger, ledger, opened, noted}
+use Rattle.demands.specs.Ledger.{Store, store, Listing, none, list, Ledger, opened, noted}
 use Rattle.demands.proofs.BlockLists.{drop-even, from-block, some-blocks}
 use Rattle.demands.proofs.Gathering.{Gathered}
 use Rattle.demands.proofs.Agreeing.{Opened, shut, closing, Agrees}
@@ -74,16 +74,17 @@ module _ (w : World) (l : Ledger) (a : Agrees w l) where
   number = w .state .media .disc
 
   -- by what it opens
-  by-passing : (motor : Bool) (t : Transfer) (buffer : List ℕ) (stored : Store) (left : ℕ) (coming : List ℕ) → stored .blocks ≡ l .stored .blocks
-      → Opened (blockBytes number) buffer (w .disc) stored left coming t
-      → Agrees (inBuffer (passing w motor t) buffer) (ledger (l .media) (told (l .host) noSense) stored left coming)
+  by-passing : (motor : Bool) (t : Transfer) (buffer : List ℕ) (stored : Store) (left : ℕ) (coming : List ℕ) (listing : Listing)
+      → stored .blocks ≡ l .stored .blocks → (leftOf t ≡ 0 → listing ≡ none) → Opened (blockBytes number) buffer (w .disc) stored left coming listing t
+      → Agrees (inBuffer (passing w motor t) buffer)
+      (record { media = l .media; host = told (l .host) noSense; stored = stored; left = left; coming = coming; listing = listing })
   unfolding obeyedOf
-  by-passing motor t buffer stored left coming same o =
+  by-passing motor t buffer stored left coming listing same over o =
       record {
         media = a .media;
         host = rw (a .host);
         disc = rw same (a .disc);
-        opened = closing (blockBytes number) buffer (w .disc) stored left coming t o;
+        opened = closing (blockBytes number) buffer (w .disc) stored left coming listing t over o;
       }
 
   module _ (ready : Ready w) (p : List ℕ) (n : ℕ) where
@@ -133,39 +134,46 @@ module _ (w : World) (l : Ledger) (a : Agrees w l) where
         → (opensB r ≡ true → placeOf number (addressOf p) .0 + runBytes number n ≤ length (w .disc))
         → Agrees (routineOf r w p n) (opened r l (told (l .host) noSense) p n)
     unfolding spanOf
-    agrees-routine Nothing is-in within = by-passing (w .state .motor) Closed (w .buffer) (l .stored) 0 [] refl (shut _ _ _ _)
-    agrees-routine Motor is-in within = by-passing (eqb (byteAt p 4 % 2) 1) Closed (w .buffer) (l .stored) 0 [] refl (shut _ _ _ _)
+    agrees-routine Nothing is-in within = by-passing (w .state .motor) Closed (w .buffer) (l .stored) 0 [] none refl (λ _. refl) (shut _ _ _ _)
+    agrees-routine Motor is-in within = by-passing (eqb (byteAt p 4 % 2) 1) Closed (w .buffer) (l .stored) 0 [] none refl (λ _. refl) (shut _ _ _ _)
     agrees-routine (Answer x) is-in within =
         let m = w .state .media in
         let sense = w .state .host .sense in
         let f = giveOf x m sense p n (w .buffer) in
         let few : f .count ≤ length (f .bytes) = rw (give-length x m sense p n (w .buffer)) (give-count x m sense p n (w .buffer)) in
-        by-passing (w .state .motor) (AnswerFrom (record { at = 0; left = f .count })) (f .bytes) (l .stored) 0 _ refl
+        by-passing (w .state .motor) (AnswerFrom (record { at = 0; left = f .count })) (f .bytes) (l .stored) 0 _ none refl (λ _. refl)
         (record {
           taking = refl;
           giving = answer-bytes x;
           all = omega (arith, length-take-le (f .count) (f .bytes) few);
           gathered = tt;
+          listed = refl;
         })
     agrees-routine Read is-in within =
         let far = within refl in
         let rest = drop (placeOf number (addressOf p) .0) (w .disc) in
-        by-passing (w .state .motor) (ReadFrom (spanOf number (addressOf p) n)) (w .buffer) (l .stored) 0 _ refl
+        by-passing (w .state .motor) (ReadFrom (spanOf number (addressOf p) n)) (w .buffer) (l .stored) 0 _ none refl (λ _. refl)
         (record {
           taking = refl;
           giving = read-blocks (is-in refl);
           all = omega (arith, length-take-le (runBytes number n) rest (simp length-drop (omega arith)));
           gathered = tt;
+          listed = refl;
         })
     agrees-routine Write is-in within =
         let span = spanOf number (addressOf p) n in
-        by-passing (w .state .motor) (WriteTo span) (w .buffer) (store (l .stored .blocks) (addressOf p) []) (runBytes (l .media .disc) n) [] refl
+        by-passing (w .state .motor) (WriteTo span) (w .buffer) (store (l .stored .blocks) (addressOf p) []) (runBytes (l .media .disc) n) [] none refl (λ _. refl)
         (record {
           taking = rw (a .media);
           giving = refl;
           all = add-zero (runBytes number n);
           gathered = write-starts (is-in refl);
+          listed = refl;
         })
+    agrees-routine ParameterList is-in within =
+        let from : ListAt = record { track = byteAt p 2; left = listBytes } in
+        by-passing (w .state .motor) (ListFor from) (w .buffer) (l .stored) 12 [] (list (byteAt p 2) []) refl (λ z. absurd (omega (arith, z)))
+        (record { taking = refl; giving = refl; all = refl; gathered = tt; listed = refl })
 
 -- ---- any command
 

@@ -1,9 +1,9 @@
 -- What one feed or pull moves: the first bytes of what is lent, as many as the open transfer has left. Assumes nothing.
 use Rattle.ground.specs.Kit.{_≡_, refl, sym, ap, _∙_, Bool, true, false, List, [], _∷_, _++_, append-assoc, append-nil, ℕ, _+_, _-_, _<_, min, add-zero, sub-zero, arith, eqb-true, eqb, length, take, drop, take-append-add, drop-append-add, take-length, drop-length, take-add, drop-drop}
-use Rattle.state.specs.declared.{Media.Media, State.State, AnswerAt.AnswerAt, DiscAt.DiscAt, Transfer.Transfer}
+use Rattle.state.specs.declared.{Media.Media, State.State, AnswerAt.AnswerAt, DiscAt.DiscAt, ListAt.ListAt, Transfer.Transfer}
 use Rattle.disc.specs.Formats.{blockBytes}
 use Rattle.state.specs.States.{leftOf, closedAtZero, movedOf}
-use Rattle.state.specs.declared.Transfer.the-variants.{Closed, Answer, Read, Write}
+use Rattle.state.specs.declared.Transfer.the-variants.{Closed, Answer, Read, Write, ParameterList}
 use Rattle.house.specs.World.{World, inState, inLent}
 use Rattle.house.specs.Theorems.{Ready}
 use Rattle.moves.specs.Replies.{idle}
@@ -157,7 +157,7 @@ pub record Put (puts : Puts) : Type 0 where
       → let one = puts number at x buffer disc in
       puts number at (x ++ y) buffer disc ≡ puts number (at + length x) y (one .buffer) (one .disc)
 
--- a device that puts them so: without an open write nothing moves
+-- a device that puts them so: without an open write or list nothing moves, and a list is fed as ours
 pub record Feeds (d : Device) (puts : Puts) : Type 0 where
   pub put : Put puts
   pub ready : (w : World) (x : List ℕ) → Ready w → Ready (d .call w (Feed x) .world)
@@ -165,6 +165,7 @@ pub record Feeds (d : Device) (puts : Puts) : Type 0 where
   pub fed :
       (w : World) (p : DiscAt) (x : List ℕ) → Ready w → feedOf w x ≡ writeFed p w x → w .state .transfer ≡ Write p
       → lendOne d Feed w x ≡ moving (feeding puts) w (p .at .0) (p .left) x
+  pub lists : (w : World) (p : ListAt) (x : List ℕ) → Ready w → w .state .transfer ≡ ParameterList p → d .call w (Feed x) ≡ callOf w (Feed x)
 
 -- serves it
 module _ {d : Device} {puts : Puts} (f : Feeds d puts) where
@@ -209,6 +210,7 @@ our-feeds =
       ready = λ w x. stays w (Feed x);
       unfed = λ w x r e. rw e;
       fed = λ w p x r e f. rw e;
+      lists = λ w p x r e. refl;
     }
 
 -- ---- a pull of an open read or answer

@@ -41,6 +41,7 @@ use Rattle.demands.specs.Wrong.{
   Excluded,
 }
 use Rattle.demands.proofs.Foretelling.{foretold-accepted}
+use Rattle.demands.proofs.WrongLists.{formats-at-once, fills-zeros, formats-all, formats-immediate, judges-early}
 use Rattle.demands.proofs.OnDisc4.{fed-count, pulled-bytes, test, inquiry, inquiryAt, unknown, write, reading, writing, without, with4, open4, Ours, ours, ready-closed, ready-reading, ready-writing}
 
 -- a list that starts with 0 is none that starts with another number
@@ -208,6 +209,11 @@ module _ (v : World) (rest : List ℕ) (b : length (v .buffer) ≡ bufferBytes) 
         blank-from-40 = blank-from-40;
         fails-another-unit = fails-another-unit;
         answers-for-all = answers-for-all;
+        formats-at-once = formats-at-once (7 ∷ rest) (rw d);
+        fills-zeros = fills-zeros (7 ∷ rest) (rw d);
+        formats-all = formats-all (7 ∷ rest) (rw d);
+        formats-immediate = formats-immediate (7 ∷ rest) (rw d);
+        judges-early = judges-early (7 ∷ rest) (rw d);
         unknown-code-clears = unknown-code-clears;
         version-one = version-one;
         version-two = version-two;

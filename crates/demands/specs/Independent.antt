@@ -7,23 +7,26 @@ use Rattle.sound.specs.Soundness.{soundB}
 use Rattle.packet.specs.Fields.{lengthOf}
 use Rattle.packet.specs.Rules.{codeOf}
 use Rattle.packet.specs.declared.Field.the-variants.{Bytes7To8}
-use Rattle.house.specs.World.{inState, inBuffer}
+use Rattle.state.specs.declared.{DiscAt.DiscAt}
+use Rattle.house.specs.World.{World, inState, inBuffer, Reply}
 use Rattle.drive.specs.Calls.{Feed, Pull, callOf}
 use Rattle.demands.specs.Device.{Device}
 use Rattle.demands.specs.Answered.{Answered}
 use Rattle.demands.specs.Faithful.{Accounts, Faithful}
 use Rattle.demands.specs.Uncut.{CutAnywhere, ReadsCut, Cuttings, Uncut}
-use Rattle.demands.specs.Wrong.{commanding, feeding, ifAccepted, saying, firstBlockOnly, firstPullOnly, versionThree}
+use Rattle.demands.specs.Wrong.{commanding, feedingWrites, ifAccepted, saying, firstBlockOnly, firstPullOnly, versionThree}
 
--- a feed leaves the first byte that it took in the block buffer's last byte, which no caller hears: a block has that byte only once it is
+-- a feed of a write leaves the first byte that it took in the block buffer's last byte, which no caller hears: a block has that byte only once it is
 -- complete. A piece fed twice leaves the mark that it leaves fed double, other cuts need not
 abbrev pub marked : List ℕ → List ℕ → List ℕ
 marked buffer [] = buffer
 marked buffer (x ∷ xs) = set buffer 1023 x
 
+abbrev pub marking : DiscAt → World → List ℕ → Reply → Reply
+marking p w piece a = record { heard = a .heard; world = inBuffer (a .world) (marked (a .world .buffer) (take (a .heard .count) piece)) }
+
 abbrev pub marksFeeds : Device
-marksFeeds =
-    feeding (λ w piece a. record { heard = a .heard; world = inBuffer (a .world) (marked (a .world .buffer) (take (a .heard .count) piece)) })
+marksFeeds = feedingWrites marking
 
 -- an unsound state is refused, and powered on anew
 abbrev pub startsAnew : Device

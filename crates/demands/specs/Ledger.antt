@@ -1,18 +1,20 @@
 -- The ledger: an account that is blank at power-on, or read off a drive once, and from then on kept from the calls and from what was heard.
-use Rattle.ground.specs.Kit.{true, false, cond, not, _&&_, List, [], _∷_, _++_, flatten, ℕ, zero, suc, _+_, _-_, _/_, _%_, eqb, length, take, drop, set}
+use Rattle.ground.specs.Kit.{Bool, true, false, cond, not, _&&_, _||_, List, [], _∷_, _++_, flatten, ℕ, zero, suc, _+_, _*_, _-_, _/_, _%_, eqb, length, take, drop, replicate, set}
 use Rattle.disc.specs.declared.{BlockAddress.BlockAddress}
 use Rattle.state.specs.declared.{Sense.Sense, Media.Media, Host.Host, State.State, Transfer.Transfer}
 use Rattle.packet.specs.declared.{Known.Known, Routine.Routine}
+use Rattle.ground.specs.Bytes.{byteAt}
 use Rattle.disc.specs.Formats.{formatOf, blockBytes, runBytes}
-use Rattle.state.specs.declared.Transfer.the-variants.{Closed, Answer as AnswerFrom, Read as ReadFrom, Write as WriteTo}
+use Rattle.state.specs.declared.Transfer.the-variants.{Closed, Answer as AnswerFrom, Read as ReadFrom, Write as WriteTo, ParameterList as ListFor}
 use Rattle.state.specs.Senses.{triple, noSense, sameB}
 use Rattle.state.specs.States.{mediaOf, hostOf, stateOf, noMedia}
 use Rattle.packet.specs.Fields.{addressOf, lengthOf}
 use Rattle.packet.specs.Rules.{ruleOf}
 use Rattle.packet.specs.declared.Known.the-variants.{Unknown, Base}
-use Rattle.packet.specs.declared.Routine.the-variants.{Nothing, Motor, Answer, Read, Write}
+use Rattle.packet.specs.declared.Routine.the-variants.{Nothing, Motor, Answer, Read, Write, ParameterList}
 use Rattle.answer.specs.Giving.{answerOf, allocationOf}
 use Rattle.house.specs.World.{World, Heard}
+use Rattle.lists.specs.Lists.{badListB}
 use Rattle.feeds.specs.Feeding.{takes}
 use Rattle.pulls.specs.Pulling.{gives}
 use Rattle.drive.specs.Calls.{Call, Insert, Eject, Command, Feed, Pull}
@@ -26,17 +28,29 @@ pub record Store : Type 0 where
 abbrev pub store : List (List ℕ) → BlockAddress → List ℕ → Store
 store blocks block got = record { blocks = blocks; block = block; got = got }
 
+-- no parameter list is being taken, or one is: the track that its command named, and what came of it so far
+pub data Listing : Type 0 where
+  none : Listing
+  list : ℕ → List ℕ → Listing
+
 -- what the caller knows of the drive: the disc that is in and its protection; the attentions that were not told yet and the triple
--- heard last; what is stored; how many bytes a write still takes, and the bytes that a read or an answer still gives
+-- heard last; what is stored; how many bytes a write or a list still takes, and the bytes that a read or an answer still gives; the list
 pub record Ledger : Type 0 where
   pub media : Media
   pub host : Host
   pub stored : Store
   pub left : ℕ
   pub coming : List ℕ
+  pub listing : Listing
 
+-- without a list, and with one
 abbrev pub ledger : Media → Host → Store → ℕ → List ℕ → Ledger
-ledger media host stored left coming = record { media = media; host = host; stored = stored; left = left; coming = coming }
+ledger media host stored left coming =
+    record { media = media; host = host; stored = stored; left = left; coming = coming; listing = none }
+
+abbrev pub listed : Media → Host → Store → ℕ → List ℕ → Ledger
+listed media host stored track got =
+    record { media = media; host = host; stored = stored; left = 12 - length got; coming = []; listing = list track got }
 
 -- blocks of which none is being written; without a disc there are none
 abbrev pub unwritten : List (List ℕ) → Store
@@ -66,6 +80,15 @@ storedIn size buffer blocks Closed = unwritten blocks
 storedIn size buffer blocks (AnswerFrom p) = unwritten blocks
 storedIn size buffer blocks (ReadFrom p) = unwritten blocks
 storedIn size buffer blocks (WriteTo p) = store blocks (record { 0 = p .at .0 / size }) (take (p .at .0 % size) buffer)
+storedIn size buffer blocks (ListFor p) = unwritten blocks
+
+-- of an open list, what the block buffer holds of it
+abbrev pub listedIn : List ℕ → Transfer → Listing
+listedIn buffer Closed = none
+listedIn buffer (AnswerFrom p) = none
+listedIn buffer (ReadFrom p) = none
+listedIn buffer (WriteTo p) = none
+listedIn buffer (ListFor p) = list (p .track) (take (12 - p .left) buffer)
 
 -- read off its world once, before the first call
 abbrev pub ledgerOf : World → Ledger
@@ -73,7 +96,14 @@ ledgerOf w =
     let s = w .state in
     let number = s .media .disc in
     let stored = storedIn (blockBytes number) (w .buffer) (discBlocks number (w .disc)) (s .transfer) in
-    ledger (s .media) (s .host) stored (takes (s .transfer)) (gives (w .buffer) (w .disc) (s .transfer))
+    record {
+      media = s .media;
+      host = s .host;
+      stored = stored;
+      left = takes (s .transfer);
+      coming = gives (w .buffer) (w .disc) (s .transfer);
+      listing = listedIn (w .buffer) (s .transfer);
+    }
 
 -- ---- what is noted of a call
 
@@ -96,22 +126,48 @@ gather size s (x ∷ xs) = gather size (gatherByte size s x) xs
 abbrev pub hearing : Host → Sense → Host
 hearing h sense = hostOf (not (sameB sense (triple 0x06 0x29 0x00)) && h .power) (not (sameB sense (triple 0x06 0x28 0x00)) && h .change) sense
 
+-- "or formatted": a list is good, or it gives 05 26 00; block k is F6 throughout if it is meant, else as it was. "every block, or with Single
+-- Track the blocks of that track and side": the ledger's own rule, by the track and the side of a block
+abbrev pub meantB : ℕ → ℕ → List ℕ → ℕ → Bool
+meantB number track got k =
+    not (eqb (byteAt got 1 / 16 % 2) 1) || eqb (k / formatOf number .sectors) (track * 2 + byteAt got 1 % 2)
+
+abbrev pub reformat : ℕ → (ℕ → Bool) → ℕ → List (List ℕ) → List (List ℕ)
+reformat size meant k [] = []
+reformat size meant k (b ∷ bs) = cond (meant k) (replicate size 0xf6) b ∷ reformat size meant (suc k) bs
+
+abbrev pub reformatted : ℕ → ℕ → List ℕ → List (List ℕ) → List (List ℕ)
+reformatted number track got blocks = reformat (blockBytes number) (meantB number track got) 0 blocks
+
+abbrev pub judges : Ledger → ℕ → List ℕ → Ledger
+judges l track got =
+    let number = l .media .disc in
+    cond (badListB (formatOf number) got) (ledger (l .media) (hearing (l .host) (triple 0x05 0x26 0x00)) (l .stored) 0 [])
+    (ledger (l .media) (l .host) (unwritten (reformatted number track got (l .stored .blocks))) 0 [])
+
 -- a command that passed: a READ gives the blocks as they are stored, a WRITE takes as many from its address on, an answer gives its first
--- bytes, as the drive was before
+-- bytes, as the drive was before; FORMAT UNIT takes a list, for the track in byte 2
 abbrev pub opened : Routine → Ledger → Host → List ℕ → ℕ → Ledger
 opened Nothing l h p n = ledger (l .media) h (l .stored) 0 []
 opened Motor l h p n = ledger (l .media) h (l .stored) 0 []
 opened (Answer a) l h p n = ledger (l .media) h (l .stored) 0 (take (allocationOf a n) (answerOf a (l .media) (l .host .sense) p))
 opened Read l h p n = ledger (l .media) h (l .stored) 0 (flatten (take n (drop (addressOf p .0) (l .stored .blocks))))
 opened Write l h p n = ledger (l .media) h (store (l .stored .blocks) (addressOf p) []) (runBytes (l .media .disc) n) []
+opened ParameterList l h p n = listed (l .media) h (l .stored) (byteAt p 2) []
 
 abbrev pub passes : Known → Ledger → Host → List ℕ → Ledger
 passes Unknown l h p = ledger (l .media) h (l .stored) 0 []
 passes (Base rule) l h p = opened (rule .routine) l h p (lengthOf (rule .length) p)
 
--- bytes that a write took
+-- bytes that a write took, and bytes that a list took: with its twelfth it is judged
+abbrev pub fedTo : Listing → Ledger → List ℕ → Ledger
+fedTo none l xs = ledger (l .media) (l .host) (gather (blockBytes (l .media .disc)) (l .stored) xs) (l .left - length xs) (l .coming)
+fedTo (list track got) l xs =
+    let all = got ++ xs in
+    cond (eqb (length all) 12) (judges l track all) (listed (l .media) (l .host) (l .stored) track all)
+
 abbrev pub fed : Ledger → List ℕ → Ledger
-fed l xs = ledger (l .media) (l .host) (gather (blockBytes (l .media .disc)) (l .stored) xs) (l .left - length xs) (l .coming)
+fed l xs = fedTo (l .listing) l xs
 
 -- an accepted call; an insertion leaves an open answer, an ejection and a command close whatever was open; a command tells its triple
 abbrev pub accepts : Ledger → Call → Heard → Ledger
@@ -122,7 +178,15 @@ accepts l (Command p) h =
     let host = hearing (l .host) (h .sense) in
     cond (h .passed) (passes (ruleOf p) l host p) (ledger (l .media) host (l .stored) 0 [])
 accepts l (Feed piece) h = fed l (take (h .count) piece)
-accepts l (Pull out) h = ledger (l .media) (l .host) (l .stored) (l .left) (drop (h .count) (l .coming))
+accepts l (Pull out) h =
+    record {
+      media = l .media;
+      host = l .host;
+      stored = l .stored;
+      left = l .left;
+      coming = drop (h .count) (l .coming);
+      listing = l .listing;
+    }
 
 -- a refused call leaves the ledger as it is
 unfoldable pub noted : Ledger → Call → Heard → Ledger

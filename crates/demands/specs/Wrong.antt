@@ -1,15 +1,16 @@
 -- Devices that break a demand, each ours but for one thing; proofs/Wrong refutes them.
-use Rattle.ground.specs.Kit.{_≡_, Bool, true, false, cond, _&&_, List, [], _∷_, _++_, ℕ, _-_, min, eqb, length, take, drop, replicate, set, sets}
-use Rattle.state.specs.declared.{Sense.Sense, DiscAt.DiscAt, Transfer.Transfer}
+use Rattle.ground.specs.Kit.{_≡_, Bool, true, false, cond, not, _&&_, List, [], _∷_, _++_, ℕ, _+_, _-_, min, eqb, length, take, drop, replicate, set, sets}
+use Rattle.state.specs.declared.{Sense.Sense, DiscAt.DiscAt, ListAt.ListAt, Transfer.Transfer}
 use Rattle.packet.specs.declared.{Rule.Rule}
-use Rattle.disc.specs.Formats.{blockBytes}
+use Rattle.disc.specs.Formats.{formatOf, blockBytes, runBytes, placeOf}
 use Rattle.state.specs.Senses.{noSense, unknownCode, otherUnit, sameB}
-use Rattle.state.specs.declared.Transfer.the-variants.{Closed, Answer as AnswerFrom, Read, Write}
-use Rattle.state.specs.States.{hostOf, stateOf, powerOn, obeyedOf}
+use Rattle.state.specs.declared.Transfer.the-variants.{Closed, Answer as AnswerFrom, Read, Write, ParameterList}
+use Rattle.state.specs.States.{hostOf, stateOf, powerOn, obeyedOf, movedOf}
 use Rattle.packet.specs.Fields.{addressOf}
 use Rattle.packet.specs.Rules.{codeOf}
 use Rattle.checks.specs.Verdicts.{otherUnitB}
 use Rattle.house.specs.World.{World, inState, inBuffer, inDisc, Reply, reply}
+use Rattle.lists.specs.Lists.{immediateB, badListB, meantOf, formatted, listJudged}
 use Rattle.drive.specs.Calls.{Call, Insert, Eject, Command, Feed, Pull, callOf}
 use Rattle.demands.specs.Device.{Device}
 use Rattle.demands.specs.Faithful.{Judges, Accounts, Announces}
@@ -73,24 +74,29 @@ handsOutZeros =
     let n = a .heard .count in
     reply (a .heard .house) false n (replicate n 0 ++ drop n out) (a .world))
 
+-- by an open read, write and list, and without any of them
+abbrev pub byOpen : {A : Type 0} → (DiscAt → A) → (DiscAt → A) → (ListAt → A) → A → Transfer → A
+byOpen reads writes lists other Closed = other
+byOpen reads writes lists other (AnswerFrom p) = other
+byOpen reads writes lists other (Read p) = reads p
+byOpen reads writes lists other (Write p) = writes p
+byOpen reads writes lists other (ParameterList p) = lists p
+
+-- what is made of our answer to a feed of an open write; a list is fed as ours
+abbrev pub feedingWrites : (DiscAt → Calls) → Device
+feedingWrites f = feeding (λ w piece a. byOpen (λ p. a) (λ p. f p w piece a) (λ p. a) a (w .state .transfer))
+
 -- it counts and goes on as ours, and stores nothing
 abbrev pub discardsFeeds : Device
-discardsFeeds = feeding (λ w piece a. leaving a (inState w (a .world .state)))
+discardsFeeds = feedingWrites (λ p w piece a. leaving a (inState w (a .world .state)))
 
 -- ---- "One that serves only the first block or first pull of a transfer"
 
 abbrev atMost : ℕ → DiscAt → DiscAt
 atMost n p = record { at = p .at; left = min n (p .left) }
 
--- by an open read, by an open write, and without either
-abbrev pub byDisc : {A : Type 0} → (DiscAt → A) → (DiscAt → A) → A → Transfer → A
-byDisc reads writes other Closed = other
-byDisc reads writes other (AnswerFrom p) = other
-byDisc reads writes other (Read p) = reads p
-byDisc reads writes other (Write p) = writes p
-
 abbrev shortened : ℕ → Transfer → Transfer
-shortened n t = byDisc (λ p. Read (atMost n p)) (λ p. Write (atMost n p)) t t
+shortened n t = byOpen (λ p. Read (atMost n p)) (λ p. Write (atMost n p)) ParameterList t t
 
 abbrev with : World → Transfer → World
 with w t = inState w (stateOf (w .state .media) (w .state .motor) (w .state .host) t)
@@ -101,7 +107,7 @@ firstBlockOnly =
 
 -- what is pulled from once is closed
 abbrev pub pulledOnce : Transfer → Transfer
-pulledOnce t = byDisc (λ p. Closed) Write Closed t
+pulledOnce t = byOpen (λ p. Closed) Write ParameterList Closed t
 
 abbrev pub firstPullOnly : Device
 firstPullOnly = pulling (λ w out a. leaving a (with (a .world) (pulledOnce (a .world .state .transfer))))
@@ -160,6 +166,51 @@ failsAnotherUnit = commanding (λ w p a. cond (eqb (codeOf p) 0x12 && otherUnitB
 abbrev pub answersForAll : Device
 answersForAll = commanding (λ w p a. cond (a .heard .passed && eqb (codeOf p) 0x12) (callOf w (Command (set p 1 0))) a)
 
+-- ---- Req 03: FORMAT UNIT formats when it passes
+
+abbrev pub formatsAtOnce : Device
+formatsAtOnce =
+    commanding (λ w p a. cond (a .heard .passed && eqb (codeOf p) 0x04) (leaving a (inDisc (a .world) (replicate (length (w .disc)) 0xf6))) a)
+
+-- what is made of our answer to a feed of an open list, by the world after it
+abbrev pub feedingLists : (ListAt → World → Reply → Reply) → Device
+feedingLists f = feeding (λ w piece a. byOpen (λ p. a) (λ p. a) (λ p. f p w a) a (w .state .transfer))
+
+-- a whole list, that is good
+abbrev goodB : ListAt → Reply → Bool
+goodB p a = eqb (a .heard .count) (p .left) && not (badListB (formatOf (a .world .state .media .disc)) (a .world .buffer))
+
+-- it fills with zeros
+abbrev zeroed : ListAt → World → World → List ℕ
+zeroed p w after =
+    let number = w .state .media .disc in
+    let meant = meantOf (formatOf number) (p .track) (after .buffer) in
+    sets (w .disc) (placeOf number (meant .first) .0) (replicate (runBytes number (meant .count)) 0)
+
+abbrev pub fillsZeros : Device
+fillsZeros = feedingLists (λ p w a. cond (goodB p a) (leaving a (inDisc (a .world) (zeroed p w (a .world)))) a)
+
+-- it formats the whole disc for a single track
+abbrev pub formatsAll : Device
+formatsAll = feedingLists (λ p w a. cond (goodB p a) (leaving a (inDisc (a .world) (replicate (length (w .disc)) 0xf6))) a)
+
+-- it formats although Immediate is set
+abbrev pub formatsImmediate : Device
+formatsImmediate =
+    feedingLists (λ p w a.
+    let number = w .state .media .disc in
+    cond (eqb (a .heard .count) (p .left) && immediateB (a .world .buffer))
+    (leaving a (inDisc (inState (a .world) (movedOf (w .state) Closed)) (formatted number (meantOf (formatOf number) (p .track) (a .world .buffer)) (w .disc))))
+    a)
+
+-- it judges at the eleventh byte: with one byte left the disc is formatted, if what the block buffer holds then is good
+abbrev pub judgesEarly : Device
+judgesEarly =
+    feedingLists (λ p w a.
+    cond (eqb (a .heard .count + 1) (p .left))
+    (leaving a (inDisc (a .world) (listJudged (w .state .media .disc) (p .track) (a .world .buffer) (w .disc) .disc)))
+    a)
+
 -- ---- the first three versions of the box
 
 -- version one swaps silently: the change flag stays as it was
@@ -171,12 +222,11 @@ abbrev pub versionTwo : Device
 versionTwo = commanding (λ w p a. cond (a .heard .passed && eqb (codeOf p) 0x12) (leaving a (withChange false (a .world))) a)
 
 -- version three stores byte by byte
-abbrev pub storedAt : Transfer → List ℕ → List ℕ → ℕ → List ℕ
-storedAt t disc piece n = byDisc (λ p. disc) (λ p. sets disc (p .at .0) (take n piece)) disc t
+abbrev pub storesBytes : DiscAt → Calls
+storesBytes p w piece a = leaving a (inDisc (inState w (a .world .state)) (sets (w .disc) (p .at .0) (take (a .heard .count) piece)))
 
 abbrev pub versionThree : Device
-versionThree =
-    feeding (λ w piece a. leaving a (inDisc (inState w (a .world .state)) (storedAt (w .state .transfer) (w .disc) piece (a .heard .count))))
+versionThree = feedingWrites storesBytes
 
 -- ---- each breaks demand 2, and demand 3 with it, by the sentence that is named here
 
@@ -193,6 +243,11 @@ pub record Excluded : Type 0 where
   pub blank-from-40 : Accounts blankFrom40 → ⊥
   pub fails-another-unit : Judges failsAnotherUnit → ⊥
   pub answers-for-all : Accounts answersForAll → ⊥
+  pub formats-at-once : Accounts formatsAtOnce → ⊥
+  pub fills-zeros : Accounts fillsZeros → ⊥
+  pub formats-all : Accounts formatsAll → ⊥
+  pub formats-immediate : Accounts formatsImmediate → ⊥
+  pub judges-early : Accounts judgesEarly → ⊥
   pub unknown-code-clears : Announces unknownCodeClears → ⊥
   pub version-one : Announces versionOne → ⊥
   pub version-two : Announces versionTwo → ⊥

@@ -9,7 +9,7 @@ none = 0xff ∷ 0xe0 ∷ replicate 10 0
 abbrev ff : ℕ → ℕ → List ℕ → List ℕ
 ff i j row = take i row ++ replicate (suc j - i) 0xff ++ drop (suc j) row
 
--- a row for each base command in the order of the codes
+-- a row for each base command of paper 01 in the order of the codes, and behind them that of 04
 unfoldable pub masks : List (List ℕ)
 masks =
     -- 00, 01: none
@@ -39,6 +39,8 @@ masks =
     -- A8, AA: bytes 2-9 FF
     ∷ ff 2 9 none
     ∷ ff 2 9 none
+    -- Req 03, 04: "byte 1 FF, bytes 2, 7, 8 FF"
+    ∷ ff 1 2 (ff 7 8 none)
     ∷ []
 
 -- past the table nothing may be set

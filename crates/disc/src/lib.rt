@@ -73,8 +73,8 @@ const FORMATS: [Format; 5] = [
 
 const FF: u8 = 0xff;
 
-// The bits that a packet may have set, a row for each base command in the order of the operation codes. Byte 0 has no mask.
-const MASKS: [[u8; 12]; 16] = [
+// The bits that a packet may have set, a row for each base command: in the order of the operation codes, and then 04. Byte 0 has no mask.
+const MASKS: [[u8; 12]; 17] = [
     [FF, 0xe0, 0, 0, 0, 0, 0, 0, 0, 0, 0, 0],
     [FF, 0xe0, 0, 0, 0, 0, 0, 0, 0, 0, 0, 0],
     [FF, 0xe0, 0, 0, FF, 0, 0, 0, 0, 0, 0, 0],
@@ -91,6 +91,7 @@ const MASKS: [[u8; 12]; 16] = [
     [FF, 0xe8, FF, 0, 0, 0, 0, FF, FF, 0, 0, 0],
     [FF, 0xe0, FF, FF, FF, FF, FF, FF, FF, FF, 0, 0],
     [FF, 0xe0, FF, FF, FF, FF, FF, FF, FF, FF, 0, 0],
+    [FF, FF, FF, 0, 0, 0, 0, FF, FF, 0, 0, 0],
 ];
 
 // The row of a disc's number; no disc past the table.
@@ -138,5 +139,5 @@ pub fn place_of(number: u8, block: BlockAddress) -> BytePlace
 pub fn mask_row(row: usize) -> [u8; 12]
     ensures { λ r. ⌜ r ≡ maskRow row ⌝ }
 {
-    if row < 16 { MASKS[row] } else { [0; 12] }
+    if row < 17 { MASKS[row] } else { [0; 12] }
 }

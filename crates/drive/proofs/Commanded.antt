@@ -1,7 +1,7 @@
 -- What a command leaves: a sound state, what is lent as long as it was, and the flags but for the one that it reports. Assumes nothing.
-use Rattle.ground.specs.Kit.{_≡_, refl, sym, Bool, true, false, _||_, List, ℕ, _+_, _%_, _≤_, add-mul, mul-mod-left, mul-zero, arith, not-true, eqb, length}
+use Rattle.ground.specs.Kit.{_≡_, refl, sym, Bool, true, false, _||_, List, ℕ, _+_, _%_, _≤_, _<_, lit≤, add-mul, mul-mod-left, mul-zero, arith, not-true, eqb, length}
 use Rattle.disc.specs.declared.{BlockAddress.BlockAddress}
-use Rattle.state.specs.declared.{AnswerAt.AnswerAt, Transfer.Transfer}
+use Rattle.state.specs.declared.{AnswerAt.AnswerAt, ListAt.ListAt, Transfer.Transfer}
 use Rattle.packet.specs.declared.{Rule.Rule, Routine.Routine}
 use Rattle.checks.specs.declared.{Verdict.Verdict}
 use Rattle.ground.specs.Bytes.{byteAt}
@@ -9,17 +9,17 @@ use Rattle.ground.proofs.Truth.{neither}
 use Rattle.disc.specs.Formats.{bufferBytes, formatOf, blockBytes, runBytes, placeOf}
 use Rattle.disc.proofs.Discs.{run-within}
 use Rattle.state.specs.Senses.{powerTold, changeTold, noSense, sameB, namedB}
-use Rattle.state.specs.States.{leftOf, obeyedOf}
-use Rattle.state.specs.declared.Transfer.the-variants.{Closed, Answer as AnswerFrom, Read as ReadFrom, Write as WriteTo}
+use Rattle.state.specs.States.{listBytes, leftOf, obeyedOf}
+use Rattle.state.specs.declared.Transfer.the-variants.{Closed, Answer as AnswerFrom, Read as ReadFrom, Write as WriteTo, ParameterList as ListFor}
 use Rattle.sound.specs.Soundness.{openSoundB, soundB}
-use Rattle.sound.proofs.Opened.{OnDisc, EndsOnBlock, on-disc-sound, writes-sound, answer-sound}
+use Rattle.sound.proofs.Opened.{OnDisc, EndsOnBlock, on-disc-sound, writes-sound, lists-sound, answer-sound}
 use Rattle.sound.proofs.Keeping.{obeyed-sound}
 use Rattle.packet.specs.Fields.{addressOf, lengthOf}
-use Rattle.packet.specs.declared.Routine.the-variants.{Nothing, Motor, Answer, Read, Write}
-use Rattle.packet.proofs.BaseCommands.{opensB, writesB}
+use Rattle.packet.specs.declared.Routine.the-variants.{Nothing, Motor, Answer, Read, Write, ParameterList}
+use Rattle.packet.proofs.BaseCommands.{opensB, writesB, listsB}
 use Rattle.checks.specs.Verdicts.{verdict}
 use Rattle.checks.specs.declared.Verdict.the-variants.{Passes, Fails}
-use Rattle.checks.proofs.Passing.{passed, gives-named, gives-told, disc-in, in-range, bare}
+use Rattle.checks.proofs.Passing.{passed, gives-named, gives-told, disc-in, in-range, bare, list-in, on-track, list-bare}
 use Rattle.answer.specs.Giving.{giveOf}
 use Rattle.answer.proofs.Given.{give-count, give-length}
 use Rattle.house.specs.World.{World}
@@ -56,18 +56,19 @@ module _ (w : World) (p : List ℕ) (sound : soundB (w .state) ≡ true) (room :
   passing-sound motor t some = obeyed-sound (w .state) sound t some noSense motor refl
 
   routine-sound : (n : ℕ) (r : Routine) → (opensB r ≡ true → number ≡ 0 → ⊥) → (opensB r ≡ true → addressOf p .0 + n ≤ formatOf number .blocks)
-      → (writesB r ≡ true → w .state .media .protected ≡ false) → soundB (routineOf r w p n .state) ≡ true
+      → (writesB r ≡ true → w .state .media .protected ≡ false)
+      → (listsB r ≡ true → (number ≡ 0 → ⊥) × (byteAt p 2 < formatOf number .cylinders) × (w .state .media .protected ≡ false)) → soundB (routineOf r w p n .state) ≡ true
   unfolding openSoundB
-  routine-sound n Nothing d g h = passing-sound (w .state .motor) Closed (λ _. refl)
-  routine-sound n Motor d g h = passing-sound (eqb (byteAt p 4 % 2) 1) Closed (λ _. refl)
-  routine-sound n (Answer a) d g h =
+  routine-sound n Nothing d g h l = passing-sound (w .state .motor) Closed (λ _. refl)
+  routine-sound n Motor d g h l = passing-sound (eqb (byteAt p 4 % 2) 1) Closed (λ _. refl)
+  routine-sound n (Answer a) d g h l =
       let few = give-count a (w .state .media) (w .state .host .sense) p n (w .buffer) in
       let from : AnswerAt = record { at = 0; left = giveOf a (w .state .media) (w .state .host .sense) p n (w .buffer) .count } in
       passing-sound (w .state .motor) (AnswerFrom from)
       (λ some. answer-sound (w .state .media) from (record { some = omega (arith, some); within = omega arith }))
-  routine-sound n Read d g h =
+  routine-sound n Read d g h l =
       passing-sound (w .state .motor) (ReadFrom _) (λ some. on-disc-sound number _ (on-disc number (d refl) (addressOf p) n (g refl) some))
-  routine-sound n Write d g h =
+  routine-sound n Write d g h l =
       passing-sound (w .state .motor) (WriteTo _)
       (λ some.
       writes-sound (w .state .media) _
@@ -76,6 +77,12 @@ module _ (w : World) (p : List ℕ) (sound : soundB (w .state) ≡ true) (room :
         ends = on-block number (d refl) (addressOf p) n (g refl) some;
         bare = rw (h refl);
       }))
+  routine-sound n ParameterList d g h l =
+      let list : ListAt = record { track = byteAt p 2; left = listBytes } in
+      passing-sound (w .state .motor) (ListFor list)
+      (λ _.
+      lists-sound (w .state .media) list
+      (record { some = lit≤ tt; few = lit≤ tt; track = l refl .1; bare = rw (l refl .2); is-in = l refl .0 }))
 
   pub replied-sound : (v : Verdict) → verdict (w .state .media) (w .state .host) p ≡ v → soundB (replyTo v w p .world .state) ≡ true
   unfolding performedOf openSoundB
@@ -84,6 +91,7 @@ module _ (w : World) (p : List ℕ) (sound : soundB (w .state) ≡ true) (room :
   replied-sound (Passes rule) e =
       let all = passed (w .state .media) (w .state .host) p rule e in
       routine-sound (lengthOf (rule .length) p) (rule .routine) (λ opens. disc-in all opens) (λ opens. in-range all opens) (λ writes. bare all writes)
+      (λ lists. (list-in all lists, on-track all lists, list-bare all lists))
 
 -- ---- what it keeps
 
@@ -113,6 +121,7 @@ module _ (w : World) (p : List ℕ) where
       (record { media = refl; buffer = long; disc = refl }, record { power = refl; change = refl })
   routine-keeps n Read = (record { media = refl; buffer = refl; disc = refl }, record { power = refl; change = refl })
   routine-keeps n Write = (record { media = refl; buffer = refl; disc = refl }, record { power = refl; change = refl })
+  routine-keeps n ParameterList = (record { media = refl; buffer = refl; disc = refl }, record { power = refl; change = refl })
 
   -- "A command that passes sets the sense to 00 00 00"
   pub performed-sense : (rule : Rule) → performedOf rule w p .state .host .sense ≡ noSense
@@ -125,6 +134,7 @@ module _ (w : World) (p : List ℕ) where
       here (Answer a) = refl
       here Read = refl
       here Write = refl
+      here ParameterList = refl
 
   pub replied-keeps : (v : Verdict) → Keeps w (replyTo v w p .world)
   unfolding obeyedOf performedOf

@@ -6,3 +6,6 @@ pub mod Whole
 pub mod Pending
 pub mod Units
 pub mod Cases
+pub mod TwelveBytes
+pub mod FormatUnit
+pub mod Formatting

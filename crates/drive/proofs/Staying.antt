@@ -1,23 +1,24 @@
 -- Every call keeps soundness, and in a ready world what is lent keeps its lengths. Assumes nothing.
-use Rattle.ground.specs.Kit.{_≡_, refl, _∙_, true, List, ℕ, _+_, _-_, min, arith, length, take, length-take-le}
-use Rattle.state.specs.declared.{AnswerAt.AnswerAt, DiscAt.DiscAt}
+use Rattle.ground.specs.Kit.{_≡_, refl, _∙_, true, List, ℕ, _+_, _-_, min, arith, length, take, length-take-le, length-sets}
+use Rattle.state.specs.declared.{AnswerAt.AnswerAt, DiscAt.DiscAt, ListAt.ListAt}
 use Rattle.disc.specs.Formats.{formatOf, blockBytes, runBytes, discBytes}
 use Rattle.disc.proofs.Discs.{block-fits, block-holds}
-use Rattle.state.specs.States.{insertedOf, ejectedOf, movedOf}
-use Rattle.state.specs.Senses.{namedB}
-use Rattle.state.specs.declared.Transfer.the-variants.{Answer, Read, Write}
+use Rattle.state.specs.States.{listBytes, insertedOf, ejectedOf, obeyedOf, movedOf}
+use Rattle.state.specs.Senses.{badList, namedB}
+use Rattle.state.specs.declared.Transfer.the-variants.{Closed, Answer, Read, Write, ParameterList}
 use Rattle.sound.specs.Soundness.{openSoundB, soundB}
-use Rattle.sound.proofs.Keeping.{inserted-sound, ejected-sound, moved-sound}
-use Rattle.sound.proofs.Opened.{OnDisc, EndsOnBlock, in-buffer, answer-sound, on-disc, on-disc-sound, writes, writes-sound}
+use Rattle.sound.proofs.Keeping.{inserted-sound, ejected-sound, obeyed-sound, moved-sound}
+use Rattle.sound.proofs.Opened.{OnDisc, EndsOnBlock, in-buffer, answer-sound, on-disc, on-disc-sound, writes, writes-sound, lists, lists-sound}
 use Rattle.checks.specs.Verdicts.{verdict}
 use Rattle.house.specs.World.{World}
 use Rattle.house.specs.Theorems.{Ready}
 use Rattle.house.proofs.Houses.{ready-in, insert-admits, command-admits, admits}
-use Rattle.moves.specs.Replies.{answerAfter, discAfter}
+use Rattle.lists.proofs.Formatting.{formatted-length}
+use Rattle.moves.specs.Replies.{answerAfter, discAfter, listAfter}
 use Rattle.moves.proofs.Spans.{open-sound, may-write}
-use Rattle.feeds.specs.Feeding.{writing}
+use Rattle.feeds.specs.Feeding.{writing, listGathers, listFed}
 use Rattle.feeds.proofs.Feeding.{feed-lengths}
-use Rattle.feeds.proofs.ByTransfer.{by-feeding}
+use Rattle.feeds.proofs.ByTransfer.{by-feeding, by-list}
 use Rattle.pulls.proofs.ByTransfer.{by-pulling}
 use Rattle.drive.specs.Calls.{Call, Insert, Eject, Command, Feed, Pull, houseOf, callOf}
 use Rattle.drive.specs.Theorems.{PowerOnSound}
@@ -63,6 +64,24 @@ module _ (w : World) (sound : soundB (w .state) ≡ true) (n : ℕ) where
       writes-sound (w .state .media) (discAfter p n)
       (record { on = still-on number p n some (o .on); ends = still-ends number p n some (o .ends); bare = o .bare }))
 
+  list-on : (p : ListAt) → openSoundB (w .state .media) (ParameterList p) ≡ true → soundB (movedOf (w .state) (ParameterList (listAfter p n))) ≡ true
+  list-on p e =
+      let o = lists (w .state .media) p e in
+      moved-sound (w .state) sound (ParameterList (listAfter p n))
+      (λ some.
+      lists-sound (w .state .media) (listAfter p n)
+      (record { some = omega (arith, some); few = omega (arith, o .few); track = o .track; bare = o .bare; is-in = o .is-in }))
+
+-- a list that goes on, is refused or is obeyed
+list-fed-sound : (w : World) → soundB (w .state) ≡ true → (piece : List ℕ) (p : ListAt) → openSoundB (w .state .media) (ParameterList p) ≡ true
+    → soundB (listFed p w piece .world .state) ≡ true
+unfolding openSoundB namedB
+list-fed-sound w sound piece p e =
+    let n = min (length piece) (p .left) in
+    by-list p n (listGathers p w (take n piece)) (λ v. soundB (v .state) ≡ true) (λ _. list-on w sound n p e)
+    (λ _ _. obeyed-sound (w .state) sound Closed (λ _. refl) badList (w .state .motor) refl)
+    (λ _ _. moved-sound (w .state) sound Closed (λ _. refl))
+
 -- ---- every call keeps soundness
 
 module _ (w : World) where
@@ -78,6 +97,7 @@ module _ (w : World) where
   sound-accepted sound (Feed piece) none =
       let r = admits w .0 none in
       by-feeding w piece (λ a. soundB (a .world .state) ≡ true) (λ _. sound) (λ p e. write-on w sound _ p (open-sound w r (Write p) e))
+      (λ p e. list-fed-sound w sound piece p (open-sound w r (ParameterList p) e))
   sound-accepted sound (Pull out) none =
       let r = admits w .0 none in
       by-pulling w out (λ a. soundB (a .world .state) ≡ true) (λ _. sound) (λ p e. answer-on w sound _ p (open-sound w r (Answer p) e))
@@ -94,7 +114,7 @@ module _ (w : World) where
 
   -- bytes that were fed leave the lengths
   fed-keeps : Ready w → (piece : List ℕ) → Keeps w (acceptedOf w (Feed piece) .world)
-  unfolding movedOf
+  unfolding movedOf obeyedOf
   fed-keeps r piece =
       by-feeding w piece (λ a. Keeps w (a .world)) (λ _. record { media = refl; buffer = refl; disc = refl })
       (λ p e.
@@ -107,6 +127,12 @@ module _ (w : World) where
       feed-lengths (blockBytes number) pos (take n piece) (writing (p .at) (w .buffer) (w .disc)) (omega (arith, block-fits number, r .buffer))
       (rw l (omega (arith, s .within))) in
       record { media = refl; buffer = lengths .0; disc = lengths .1 })
+      (λ p e.
+      let n = min (length piece) (p .left) in
+      let long = length-sets (w .buffer) (listBytes - p .left) (take n piece) in
+      by-list p n (listGathers p w (take n piece)) (Keeps w) (λ _. record { media = refl; buffer = long; disc = refl })
+      (λ _ _. record { media = refl; buffer = long; disc = refl })
+      (λ _ _. record { media = refl; buffer = long; disc = formatted-length (w .state .media .disc) _ (w .disc) }))
 
   pulled-keeps : (out : List ℕ) → Keeps w (acceptedOf w (Pull out) .world)
   unfolding movedOf

@@ -1,3 +1,4 @@
 pub mod Calls
 pub mod Theorems
 pub mod Cases
+pub mod Formatting

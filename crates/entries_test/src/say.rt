@@ -49,7 +49,7 @@ pub(crate) fn flag(set: bool, name: &[u8]) {
     }
 }
 
-// An open transfer by its name, its place and the bytes that are left.
+// An open transfer by its name, its place (a list has its track) and the bytes that are left.
 fn span(name: &[u8], at: usize, left: usize) {
     text(name);
     decimal(at);
@@ -63,6 +63,7 @@ fn transfer(transfer: Transfer) {
         Transfer::Answer(p) => span(b" answer ", p.at, p.left),
         Transfer::Read(p) => span(b" read ", p.at.0, p.left),
         Transfer::Write(p) => span(b" write ", p.at.0, p.left),
+        Transfer::ParameterList(p) => span(b" list ", p.track as usize, p.left),
     }
 }
 

@@ -25,6 +25,7 @@ fn media() {
     let answer = states::plain(0, false, states::answer(0, 4));
     let read = states::plain(0, false, states::read(0, 512));
     let write = states::plain(0, false, states::write(0, 512));
+    let list = states::plain(0, false, states::list(0, 12));
     unsound(b"disc 5", states::plain(5, false, closed), 0);
     unsound(b"disc 255", states::plain(255, false, closed), 0);
     sound(b"disc 4", Entry::Eject, bare, 32768);
@@ -32,6 +33,7 @@ fn media() {
     sound(b"protection, disc 4", Entry::Eject, protected, 32768);
     unsound(b"a read, no disc", read, 0);
     unsound(b"a write, no disc", write, 0);
+    unsound(b"a list, no disc", list, 0);
     sound(b"an answer, no disc", Entry::Pull, answer, 0);
 }
 
@@ -129,6 +131,33 @@ fn writes() {
     sound(b"a read, protected", Entry::Pull, read, 32768);
 }
 
+fn lists() {
+    let last = 18446744073709551615;
+    let list = states::plain(4, true, states::list(0, 12));
+    unsound_open(b"a list, 0 left", states::list(0, 0));
+    sound_open(b"a list, 1 left", Entry::Feed, states::list(0, 1));
+    unsound_open(b"a list, 13 left", states::list(0, 13));
+    unsound_open(b"a list, 2^64 - 1 left", states::list(0, last));
+    sound_open(b"a list, 12 left", Entry::Feed, states::list(0, 12));
+    unsound(b"a list, protected", list, 32768);
+}
+
+// A list for the last track of a disc of so many bytes, and for the one after it.
+fn last_track(number: u8, last: u8, after: u8, disc: usize) {
+    let unsound_one = states::plain(number, false, states::list(after, 12));
+    let sound_one = states::plain(number, false, states::list(last, 12));
+    unsound(b"a list, the track after the last", unsound_one, disc);
+    sound(b"a list, the last track", Entry::Feed, sound_one, disc);
+}
+
+fn tracks() {
+    last_track(1, 79, 80, 737280);
+    last_track(2, 76, 77, 1261568);
+    last_track(3, 79, 80, 1474560);
+    last_track(4, 3, 4, 32768);
+    unsound_open(b"a list, track 255", states::list(255, 12));
+}
+
 pub(crate) fn all() {
     say::text(
         b"= unsound states: command, feed, pull, insertion, ejection; and sound neighbours\n",
@@ -141,4 +170,6 @@ pub(crate) fn all() {
     disc_ends();
     far_ends();
     writes();
+    lists();
+    tracks();
 }

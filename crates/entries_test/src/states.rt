@@ -3,6 +3,7 @@ use disc::BytePlace;
 use state::AnswerAt;
 use state::DiscAt;
 use state::Host;
+use state::ListAt;
 use state::Media;
 use state::Sense;
 use state::State;
@@ -25,6 +26,13 @@ pub(crate) fn read(at: usize, left: usize) -> Transfer {
 
 pub(crate) fn write(at: usize, left: usize) -> Transfer {
     Transfer::Write(on_disc(at, left))
+}
+
+pub(crate) fn list(track: u8, left: usize) -> Transfer {
+    Transfer::ParameterList(ListAt {
+        track: track,
+        left: left,
+    })
 }
 
 // The triple of a number below 2^24.

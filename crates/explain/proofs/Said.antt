@@ -6,7 +6,7 @@ use Rattle.ground.specs.Tables.{find}
 use Rattle.ground.proofs.Tables.{all, found}
 use Rattle.ground.proofs.Truth.{both}
 use Rattle.packet.specs.Rules.{rules, codeOf, ruleOf}
-use Rattle.state.specs.Senses.{noSense, unknownCode, otherUnit, powerTold, changeTold, noDisc, badField, notSaved, outOfRange, isProtected, sameB, oneOfB, namedB}
+use Rattle.state.specs.Senses.{noSense, unknownCode, otherUnit, powerTold, changeTold, noDisc, badField, notSaved, outOfRange, isProtected, badList, sameB, oneOfB, namedB}
 use Rattle.explain.specs.Words.{names, nameText, whys, whyText, reasons, houseText, reasonText}
 use Rattle.explain.specs.Explaining.{AllSaid}
 use Rattle.packet.specs.declared.Known.the-variants.{Unknown, Base}
@@ -48,7 +48,7 @@ module _ (s : Sense) where
       rw n
       (ltb-true 0 _
       (one-why
-      (unknownCode ∷ otherUnit ∷ powerTold ∷ changeTold ∷ noDisc ∷ badField ∷ notSaved ∷ outOfRange ∷ isProtected ∷ [])
+      (unknownCode ∷ otherUnit ∷ powerTold ∷ changeTold ∷ noDisc ∷ badField ∷ notSaved ∷ outOfRange ∷ isProtected ∷ badList ∷ [])
       (sameB s noSense) refl (λ t. absurd (false≢true (sym e ∙ t))) n))
 
 -- what holds of every number below a limit

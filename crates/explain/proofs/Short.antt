@@ -1,5 +1,5 @@
 -- How long an explanation can be: of each table one test that antt computes over all of its rows. Assumes nothing.
-use Rattle.ground.specs.Kit.{_≡_, refl, Bool, true, false, cond, List, [], ℕ, _≤_, arith, eqb, ltb, leb, le-leb, leb-true, length, length-append}
+use Rattle.ground.specs.Kit.{_≡_, refl, Bool, true, false, cond, not, _&&_, List, [], _++_, ℕ, _≤_, arith, eqb, ltb, leb, le-leb, leb-true, length, length-append}
 use Rattle.disc.specs.declared.{BlockAddress.BlockAddress}
 use Rattle.packet.specs.declared.{Known.Known}
 use Rattle.record.specs.declared.{Record.Record}
@@ -10,11 +10,11 @@ use Rattle.ground.proofs.Tables.{all, found}
 use Rattle.packet.specs.Fields.{addressOf, lengthOf}
 use Rattle.packet.specs.Rules.{codeOf, ruleOf}
 use Rattle.record.specs.Records.{recordOf}
-use Rattle.state.specs.Senses.{noSense, namedB, sameB}
+use Rattle.state.specs.Senses.{noSense, badList, namedB, sameB}
 use Rattle.text.specs.Numbers.{hexOf}
 use Rattle.text.proofs.Reading.{few-digits}
 use Rattle.explain.specs.Words.{names, nameText, whys, senseText, whyText, reasons, reasonText}
-use Rattle.explain.specs.Explaining.{refusedText, putInText, insertionText, ejectionText, rangeText, baseText, calledBy, calledText, endedText, commandText, moveText, badText, meaningOf, explainedText, ShortText}
+use Rattle.explain.specs.Explaining.{refusedText, putInText, insertionText, ejectionText, rangeText, baseText, calledBy, calledText, endedText, commandText, moveText, fedText, badText, meaningOf, explainedText, ShortText}
 use Rattle.packet.specs.declared.Known.the-variants.{Unknown, Base}
 use Rattle.record.specs.declared.Record.the-variants.{Insert, Eject, Command, Feed, Pull, Bad}
 
@@ -88,12 +88,19 @@ move-short called moved house count bytes h k =
     (simp length-append (omega (arith, few-digits count, few-digits bytes)))
     (simp length-append (omega (arith, refused-short house)))
 
+fed-short : (house : ℕ) (s : Sense) (count bytes : ℕ) → length (fedText house s count bytes) ≤ 125
+unfolding fedText
+fed-short house s count bytes =
+    let move = move-short (text "feed") (text " bytes taken") house count bytes (omega arith) (omega arith) in
+    let why = one 36 (not (eqb count 0) && sameB s badList) (text ", " ++ whyText s) [] (omega (arith, why-short s)) (omega arith) in
+    simp length-append (omega (arith, move, why))
+
 meaning-short : (bytes : List ℕ) (house : ℕ) (s : Sense) (count : ℕ) (r : Record) → length (meaningOf bytes house s count r) ≤ 125
 unfolding badText
 meaning-short bytes house s count (Insert number prot) = omega (arith, insertion-short house number prot)
 meaning-short bytes house s count Eject = omega (arith, ejection-short house)
 meaning-short bytes house s count Command = command-short _ house s
-meaning-short bytes house s count (Feed n) = omega (arith, move-short (text "feed") (text " bytes taken") house count n (omega arith) (omega arith))
+meaning-short bytes house s count (Feed n) = fed-short house s count n
 meaning-short bytes house s count (Pull n) = omega (arith, move-short (text "pull") (text " bytes given") house count n (omega arith) (omega arith))
 meaning-short bytes house s count Bad = omega arith
 

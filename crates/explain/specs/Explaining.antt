@@ -1,11 +1,11 @@
 -- What a line of the player means, in words behind it.
-use Rattle.ground.specs.Kit.{_≡_, Bool, true, false, cond, List, [], _∷_, _++_, ℕ, _<_, _≤_, eqb, length, take, drop}
+use Rattle.ground.specs.Kit.{_≡_, Bool, true, false, cond, not, _&&_, List, [], _∷_, _++_, ℕ, _<_, _≤_, eqb, length, take, drop}
 use Rattle.state.specs.declared.{Sense.Sense}
 use Rattle.disc.specs.declared.{BlockAddress.BlockAddress}
 use Rattle.packet.specs.declared.{Known.Known, Rule.Rule}
 use Rattle.record.specs.declared.{Record.Record}
 use Rattle.ground.specs.Bytes.{text}
-use Rattle.state.specs.Senses.{noSense, sameB, namedB}
+use Rattle.state.specs.Senses.{noSense, badList, sameB, namedB}
 use Rattle.packet.specs.Fields.{addressOf, lengthOf}
 use Rattle.packet.specs.Rules.{codeOf, ruleOf}
 use Rattle.record.specs.Records.{recordOf}
@@ -59,6 +59,12 @@ unfoldable pub moveText : List ℕ → List ℕ → ℕ → ℕ → ℕ → List
 moveText called moved house count bytes =
     cond (eqb house 0) (decimalOf count ++ text " of " ++ decimalOf bytes ++ moved) (called ++ refusedText house)
 
+-- a feed that took bytes and left 05 26 00 had its list refused: from power-on a command that passed came before, and left 00 00 00
+unfoldable pub fedText : ℕ → Sense → ℕ → ℕ → List ℕ
+fedText house sense count bytes =
+    moveText (text "feed") (text " bytes taken") house count bytes
+    ++ cond (not (eqb count 0) && sameB sense badList) (text ", " ++ whyText sense) []
+
 unfoldable pub badText : List ℕ
 badText = text "cut short, or of another kind or length, or a protection above 1, or a pull above 512"
 
@@ -67,7 +73,7 @@ abbrev pub meaningOf : List ℕ → ℕ → Sense → ℕ → Record → List �
 meaningOf bytes house sense count (Insert number prot) = insertionText house number prot
 meaningOf bytes house sense count Eject = ejectionText house
 meaningOf bytes house sense count Command = commandText (take 12 (drop 4 bytes)) house sense
-meaningOf bytes house sense count (Feed n) = moveText (text "feed") (text " bytes taken") house count n
+meaningOf bytes house sense count (Feed n) = fedText house sense count n
 meaningOf bytes house sense count (Pull n) = moveText (text "pull") (text " bytes given") house count n
 meaningOf bytes house sense count Bad = badText
 

@@ -3,7 +3,7 @@ use Rattle.ground.specs.Kit.{Bool, cond, not, _&&_, _||_, List, [], _∷_, _++_
 use Rattle.state.specs.declared.{Sense.Sense}
 use Rattle.ground.specs.Bytes.{text}
 use Rattle.ground.specs.Tables.{Entry, _is_, find}
-use Rattle.state.specs.Senses.{unknownCode, otherUnit, powerTold, changeTold, noDisc, badField, notSaved, outOfRange, isProtected, namedB}
+use Rattle.state.specs.Senses.{unknownCode, otherUnit, powerTold, changeTold, noDisc, badField, notSaved, outOfRange, isProtected, badList, namedB}
 use Rattle.text.specs.Numbers.{hexOf, decimalOf}
 
 -- by operation code
@@ -12,6 +12,7 @@ names =
     (0x00 is text "TEST UNIT READY")
     ∷ (0x01 is text "REZERO UNIT")
     ∷ (0x03 is text "REQUEST SENSE")
+    ∷ (0x04 is text "FORMAT UNIT")
     ∷ (0x12 is text "INQUIRY")
     ∷ (0x1b is text "START STOP UNIT")
     ∷ (0x1e is text "PREVENT REMOVAL")
@@ -33,10 +34,10 @@ nameText code = find code names []
 abbrev pub codeText : ℕ → List ℕ
 codeText code = text "code " ++ hexOf code
 
--- why a command failed: the triples that the paper names differ in their additional code
+-- why a command failed, or a list: the triples that the paper names differ in their additional code
 unfoldable pub whys : List (Entry (List ℕ))
 whys =
-    (unknownCode .1 is text "not one of the sixteen codes")
+    (unknownCode .1 is text "not one of the seventeen codes")
     ∷ (otherUnit .1 is text "unit number not 0")
     ∷ (powerTold .1 is text "power-on reported")
     ∷ (changeTold .1 is text "change of disc reported")
@@ -45,6 +46,7 @@ whys =
     ∷ (notSaved .1 is text "saved values are not kept")
     ∷ (outOfRange .1 is text "past the last block")
     ∷ (isProtected .1 is text "the disc is protected")
+    ∷ (badList .1 is text "the parameter list is refused")
     ∷ []
 
 unfoldable pub senseText : Sense → List ℕ

@@ -13,7 +13,7 @@ use text::put_decimal;
 ghost use Rattle.ground.specs.Kit.{_≡_, _-_};
 ghost use Rattle.text.specs.Ink.{ink, putAll};
 ghost use Rattle.record.specs.Records.{recordOf};
-ghost use Rattle.explain.specs.Explaining.{refusedText, insertionText, ejectionText, blocksText, rangeText, baseText, calledText, endedText, commandText, moveText, meaningOf, explainedText};
+ghost use Rattle.explain.specs.Explaining.{refusedText, insertionText, ejectionText, blocksText, rangeText, baseText, calledText, endedText, commandText, moveText, fedText, meaningOf, explainedText};
 
 // Long enough for every line of the player with its words.
 pub const LINE_BYTES: usize = 1300;
@@ -137,6 +137,18 @@ fn put_move(
     put_all(line, moved, next)
 }
 
+// A feed; of one whose parameter list was refused that is said, too.
+fn put_fed(line: &mut [u8], at: usize, house: u8, sense: Sense, count: usize, bytes: usize) -> usize
+    ensures { λ r. ⌜ ink r (now (line .exit)) ≡ putAll (ink at (now (line .entry))) (fedText house sense count bytes) ⌝ }
+{
+    let next = put_move(line, b"feed", b" bytes taken", at, house, count, bytes);
+    if (count != 0) & ((sense.0 == 0x05) & (sense.1 == 0x26) & (sense.2 == 0x00)) {
+        let why = put_all(line, b", ", next);
+        return words::put_why(line, why, sense);
+    }
+    next
+}
+
 fn put_meaning(
     line: &mut [u8],
     bytes: &[u8],
@@ -152,7 +164,7 @@ fn put_meaning(
         Record::Insert(number, protected) => put_insertion(line, at, house, number, protected),
         Record::Eject => put_ejection(line, at, house),
         Record::Command => put_command(line, &bytes[HEADER_BYTES..COMMAND_BYTES], at, house, sense),
-        Record::Feed(n) => put_move(line, b"feed", b" bytes taken", at, house, count, n),
+        Record::Feed(n) => put_fed(line, at, house, sense, count, n),
         Record::Pull(n) => put_move(line, b"pull", b" bytes given", at, house, count, n),
         Record::Bad => put_all(
             line,

@@ -41,6 +41,7 @@ pub(crate) fn put_name(line: &mut [u8], at: usize, code: u8) -> usize
         b"\x00TEST UNIT READY\n\
         \x01REZERO UNIT\n\
         \x03REQUEST SENSE\n\
+        \x04FORMAT UNIT\n\
         \x12INQUIRY\n\
         \x1bSTART STOP UNIT\n\
         \x1ePREVENT REMOVAL\n\
@@ -77,14 +78,14 @@ fn put_sense(line: &mut [u8], at: usize, sense: Sense) -> usize
     put_hex(line, qualifier, sense.2)
 }
 
-// Why a command failed, by the additional code of its triple.
+// Why a command failed, or a list, by the additional code of its triple.
 pub(crate) fn put_why(line: &mut [u8], at: usize, sense: Sense) -> usize
     ensures { λ r. ⌜ ink r (now (line .exit)) ≡ putAll (ink at (now (line .entry))) (whyText sense) ⌝ }
 {
     if state::named(sense) {
         put_row(
             line,
-            b"\x20not one of the sixteen codes\n\
+            b"\x20not one of the seventeen codes\n\
             \x25unit number not 0\n\
             \x29power-on reported\n\
             \x28change of disc reported\n\
@@ -92,7 +93,8 @@ pub(crate) fn put_why(line: &mut [u8], at: usize, sense: Sense) -> usize
             \x24a bit or value that is not allowed\n\
             \x39saved values are not kept\n\
             \x21past the last block\n\
-            \x27the disc is protected\n",
+            \x27the disc is protected\n\
+            \x26the parameter list is refused\n",
             at,
             sense.1,
         )

@@ -1,13 +1,15 @@
--- Paper 01, "Disc transfers": a feed, byte by byte.
-use Rattle.ground.specs.Kit.{false, cond, List, [], _∷_, ℕ, _+_, _-_, _%_, min, eqb, length, take, set, paste}
+-- Paper 01, "Disc transfers": a feed, byte by byte; and Req 03, that of a parameter list.
+use Rattle.ground.specs.Kit.{false, cond, List, [], _∷_, ℕ, _+_, _-_, _%_, min, eqb, length, take, set, sets, paste}
 use Rattle.disc.specs.declared.{BytePlace.BytePlace}
-use Rattle.state.specs.declared.{State.State, DiscAt.DiscAt, Transfer.Transfer}
+use Rattle.state.specs.declared.{State.State, DiscAt.DiscAt, ListAt.ListAt, Transfer.Transfer}
 use Rattle.disc.specs.Formats.{blockBytes}
-use Rattle.state.specs.States.{movedOf}
-use Rattle.state.specs.declared.Transfer.the-variants.{Closed, Answer, Read, Write}
-use Rattle.house.specs.World.{World, inState, inLent, Reply, reply, unlessRefused}
+use Rattle.state.specs.States.{listBytes, obeyedOf, movedOf}
+use Rattle.state.specs.Senses.{badList}
+use Rattle.state.specs.declared.Transfer.the-variants.{Closed, Answer, Read, Write, ParameterList}
+use Rattle.house.specs.World.{World, inState, inBuffer, inDisc, inLent, Reply, reply, unlessRefused}
 use Rattle.house.specs.Refusals.{moveHouse}
-use Rattle.moves.specs.Replies.{idle, onward, discAfter}
+use Rattle.lists.specs.Lists.{Judged, listJudged}
+use Rattle.moves.specs.Replies.{idle, onward, discAfter, listAfter}
 
 -- the place of the next byte, the block buffer and the disc
 pub record Writing : Type 0 where
@@ -41,19 +43,42 @@ writeFed p w piece =
     let v = feedBytes (blockBytes (w .state .media .disc)) (writing (p .at) (w .buffer) (w .disc)) (take n piece) in
     reply 0 false n piece (written w (movedOf (w .state) (Write (discAfter p n))) v)
 
+-- a whole list: refused it "gives 05 26 00", else the sense stays as it was; "Refused or not, the list closes the transfer"
+abbrev pub listEnds : World → Judged → World
+listEnds w j =
+    inDisc (inState w (cond (j .refused) (obeyedOf (w .state) badList (w .state .motor) Closed) (movedOf (w .state) Closed))) (j .disc)
+
+-- n bytes more of a list are in the block buffer: it is "judged when its twelfth byte is taken", before that nothing but the transfer changes
+abbrev pub listGoes : ListAt → ℕ → World → World
+listGoes p n w =
+    cond (eqb n (p .left)) (listEnds w (listJudged (w .state .media .disc) (p .track) (w .buffer) (w .disc)))
+    (inState w (movedOf (w .state) (ParameterList (listAfter p n))))
+
+-- its bytes are "gathered in the block buffer's first 12 bytes"
+abbrev pub listGathers : ListAt → World → List ℕ → World
+listGathers p w xs = inBuffer w (sets (w .buffer) (listBytes - p .left) xs)
+
+-- an open list: "fed like a write"
+abbrev pub listFed : ListAt → World → List ℕ → Reply
+listFed p w piece =
+    let count = min (length piece) (p .left) in
+    reply 0 false count piece (listGoes p count (listGathers p w (take count piece)))
+
 -- how many bytes an open transfer still takes
 abbrev pub takes : Transfer → ℕ
 takes Closed = 0
 takes (Answer p) = 0
 takes (Read p) = 0
 takes (Write p) = p .left
+takes (ParameterList p) = p .left
 
--- "A feed without an open write .. gives count 0 and changes nothing."
+-- "A feed without an open write .. gives count 0 and changes nothing.", but for a list
 abbrev pub feedBy : Transfer → World → List ℕ → Reply
 feedBy Closed w piece = idle w piece
 feedBy (Answer p) w piece = idle w piece
 feedBy (Read p) w piece = idle w piece
 feedBy (Write p) w piece = writeFed p w piece
+feedBy (ParameterList p) w piece = listFed p w piece
 
 unfoldable pub feedOf : World → List ℕ → Reply
 feedOf w piece = unlessRefused (moveHouse w) w piece (feedBy (w .state .transfer) w piece)

@@ -1,5 +1,11 @@
 -- Parts of a list: those that are lent and come back, and those beside a copy that was pasted. Assumes nothing.
-use Rattle.ground.specs.Kit.{_≡_, sym, _∙_, List, [], _∷_, _++_, append-assoc, ℕ, zero, suc, _≤_, _+_, _-_, zero-add, add-zero, suc-add, arith, length, take, drop, set, length-drop, take-append-drop, paste, sets, sets-eq, take-nil, take-all, take-at, take-take, take-append-le, length-take-le, drop-at, drop-append-le, drop-drop, drop-paste}
+use Rattle.ground.specs.Kit.{_≡_, refl, sym, _∙_, List, [], _∷_, _++_, append-assoc, flatten, ℕ, zero, suc, _≤_, _+_, _-_, zero-add, add-zero, suc-add, arith, length, take, drop, set, length-drop, take-append-drop, paste, sets, sets-eq, take-nil, take-all, take-at, take-take, take-set-le, drop-set-lt, take-append-le, length-take-le, drop-at, drop-append-le, drop-drop, drop-paste}
+
+-- lists of lists, one after the other
+pub flatten-append : (xs ys : List (List ℕ)) → flatten (xs ++ ys) ≡ flatten xs ++ flatten ys
+unfolding flatten
+flatten-append [] ys = refl
+flatten-append (x ∷ xs) ys = rw (flatten-append xs ys) (sym (append-assoc x (flatten xs) (flatten ys)))
 
 -- the part from `at` to the end
 pub tail-part : (at : ℕ) (l : List ℕ) → take (length l - at) (drop at l) ≡ drop at l
@@ -23,9 +29,19 @@ sets-more (x ∷ xs) ys l at =
     let e : at + suc (length xs) ≡ suc at + length xs = omega arith in
     rw e (sets-more xs ys (set l at x) (suc at))
 
+-- what is before them and behind them stays
+pub take-sets : (vs l : List ℕ) (at m : ℕ) → m ≤ at → take m (sets l at vs) ≡ take m l
+take-sets [] l at m h = refl
+take-sets (v ∷ vs) l at m h = take-sets vs (set l at v) (suc at) m (omega arith) ∙ take-set-le m l at v h
+
+pub drop-sets : (vs l : List ℕ) (at m : ℕ) → at + length vs ≤ m → drop m (sets l at vs) ≡ drop m l
+drop-sets [] l at m h = refl
+drop-sets (v ∷ vs) l at m h = drop-sets vs (set l at v) (suc at) m (omega arith) ∙ drop-set-lt m l at v (omega arith)
+
 -- ---- parts of a list with a copy pasted into it
 
-part-taken : (n m : ℕ) (l : List ℕ) → take n (drop m l) ≡ drop m (take (m + n) l)
+-- a part is the end of what is taken up to its own end
+pub part-taken : (n m : ℕ) (l : List ℕ) → take n (drop m l) ≡ drop m (take (m + n) l)
 part-taken n zero l = rw (zero-add n)
 part-taken n (suc m) [] = rw (take-nil n, take-nil (suc m + n))
 part-taken n (suc m) (x ∷ l) = rw (suc-add m n) (part-taken n m l)

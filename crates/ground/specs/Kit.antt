@@ -7,7 +7,7 @@ pub use lib.Arith.{digits-mod}
 pub use lib.Bits.{and-mask, bitAnd}
 pub use lib.Dec.{eqb, eqb·suc-zero, leb, lit≤, ltb}
 pub use lib.ListN.{drop, drop-of-length-le, getD, length, length-append, length-drop, length-map, length-replicate, length-set, length-take, List·getD-append, List·getD-eq-default, replicate, replicate-append-replicate, set, take, take-append-drop}
-pub use lib.Seq.{append-snoc, drop-append-add, drop-append-le, drop-append-seam, drop-at, drop-cons, drop-drop, drop-length, drop-nil, drop-paste, drop-set-lt, ext-getD, getD-set-same, length-paste, length-sets, length-take-le, paste, paste-suc, paste-zero, sets, sets-eq, take-add, take-all, take-append-add, take-append-le, take-append-seam, take-at, take-length, take-nil, take-set-le, take-suc-set, take-take}
+pub use lib.Seq.{append-snoc, drop-append-add, drop-append-le, drop-append-seam, drop-at, drop-cons, drop-drop, drop-length, drop-nil, drop-paste, drop-set-lt, ext-getD, getD-set-same, getD-take, length-paste, length-sets, length-take-le, paste, paste-suc, paste-zero, set-out, sets, sets-eq, take-add, take-all, take-append-add, take-append-le, take-append-seam, take-at, take-length, take-nil, take-set-le, take-suc-set, take-take}
 pub use mathlib.Core.Bool.{_&&_, _||_, and-eq-true-iff, and-false, and-true, Bool, Bool·beq, cond, false, false≢true, not, or-false, or-true, true, true≢false}
 pub use mathlib.Core.List.{[], _++_, _∷_, append-assoc, append-nil, List, map, map-append}
 unfoldable pub use mathlib.Core.List.{flatten}

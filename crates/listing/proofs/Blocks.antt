@@ -4,6 +4,7 @@ use Rattle.listing.specs.declared.{Difference.Difference, Comparison.Com
 use Rattle.disc.specs.declared.{Format.Format, BlockAddress.BlockAddress}
 use Rattle.disc.specs.Formats.{noFormat, formats, formatOf, bufferBytes, blockBytes, runBytes}
 use Rattle.ground.proofs.Tables.{always}
+use Rattle.ground.proofs.Parts.{flatten-append}
 use Rattle.disc.proofs.Discs.{run-add, block-fits}
 use Rattle.text.specs.Ink.{ink, putAll}
 use Rattle.text.proofs.Putting.{put-append, put-then}
@@ -11,11 +12,6 @@ use Rattle.listing.specs.Differing.{among, differenceOf, differenceAt, d
 use Rattle.listing.specs.Listing.{lineOf, linesOf}
 use Rattle.listing.specs.Turns.{Listed, listed, withBlock, listedOf, lineBytes, blocksAtOnce, endOf, turned, turnOf}
 use Rattle.listing.proofs.Among.{among-more, among-few}
-
-pub flatten-append : (xs ys : List (List ℕ)) → flatten (xs ++ ys) ≡ flatten xs ++ flatten ys
-unfolding flatten
-flatten-append [] ys = refl
-flatten-append (x ∷ xs) ys = rw (flatten-append xs ys) (sym (append-assoc x (flatten xs) (flatten ys)))
 
 pub lines-append : (xs ys : List Difference) → linesOf (xs ++ ys) ≡ linesOf xs ++ linesOf ys
 unfolding linesOf

@@ -1,10 +1,10 @@
 -- A ready world's open transfer is one that the functions that move bytes can serve. Assumes nothing.
 use Rattle.ground.specs.Kit.{_≡_, true, ℕ, arith, leb-true}
-use Rattle.state.specs.declared.{AnswerAt.AnswerAt, DiscAt.DiscAt, Transfer.Transfer}
-use Rattle.state.specs.declared.Transfer.the-variants.{Answer, Read, Write}
+use Rattle.state.specs.declared.{AnswerAt.AnswerAt, DiscAt.DiscAt, ListAt.ListAt, Transfer.Transfer}
+use Rattle.state.specs.declared.Transfer.the-variants.{Answer, Read, Write, ParameterList}
 use Rattle.sound.specs.Soundness.{openSoundB}
 use Rattle.sound.proofs.Keeping.{parts}
-use Rattle.sound.proofs.Opened.{OnDisc, in-buffer, on-disc, writes}
+use Rattle.sound.proofs.Opened.{OnDisc, Lists, in-buffer, on-disc, writes, lists}
 use Rattle.house.specs.World.{World}
 use Rattle.house.specs.Theorems.{Ready}
 use Rattle.moves.specs.Places.{AnswerSpan, ReadSpan, WriteSpan}
@@ -36,3 +36,6 @@ module _ (w : World) (r : Ready w) where
 
   pub may-write : (p : DiscAt) → w .state .transfer ≡ Write p → WriteSpan number p (w .disc)
   may-write p e = let o = writes (w .state .media) p (open-sound (Write p) e) in record { span = span p (o .on); ends = o .ends .whole }
+
+  pub may-list : (p : ListAt) → w .state .transfer ≡ ParameterList p → Lists (w .state .media) p
+  may-list p e = lists (w .state .media) p (open-sound (ParameterList p) e)

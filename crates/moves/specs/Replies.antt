@@ -1,7 +1,7 @@
 -- What a feed and a pull have in common: what they reply, and what is left of the transfer.
 use Rattle.ground.specs.Kit.{false, List, ℕ, _+_, _-_}
 use Rattle.disc.specs.declared.{BytePlace.BytePlace}
-use Rattle.state.specs.declared.{AnswerAt.AnswerAt, DiscAt.DiscAt}
+use Rattle.state.specs.declared.{AnswerAt.AnswerAt, DiscAt.DiscAt, ListAt.ListAt}
 use Rattle.moves.specs.declared.{MoveReply.MoveReply}
 use Rattle.house.specs.World.{World, inState, Reply, reply, refusal}
 use Rattle.house.specs.Refusals.{numberOf}
@@ -18,9 +18,12 @@ idle w out = refusal 0 w out
 abbrev pub onward : BytePlace → ℕ → BytePlace
 onward place n = record { 0 = place .0 + n }
 
--- an answer, and a read or a write, n bytes further on
+-- an answer, a read or a write, and a list, n bytes further on
 abbrev pub answerAfter : AnswerAt → ℕ → AnswerAt
 answerAfter p n = record { at = p .at + n; left = p .left - n }
 
 abbrev pub discAfter : DiscAt → ℕ → DiscAt
 discAfter p n = record { at = onward (p .at) n; left = p .left - n }
+
+abbrev pub listAfter : ListAt → ℕ → ListAt
+listAfter p n = record { track = p .track; left = p .left - n }

@@ -1,9 +1,10 @@
 -- The table of base commands: each rule is one test that antt computes over all entries. Assumes nothing.
 use Rattle.ground.specs.Kit.{_≡_, refl, Bool, true, false, not, _||_, Bool·beq, false≢true, List, ℕ, eqb}
-use Rattle.packet.specs.declared.{Rule.Rule, Routine.Routine, Known.Known}
+use Rattle.packet.specs.declared.{Rule.Rule, Routine.Routine, Values.Values, Known.Known}
 use Rattle.ground.proofs.Tables.{all, found}
 use Rattle.packet.specs.Rules.{rules, codeOf, ruleOf}
-use Rattle.packet.specs.declared.Routine.the-variants.{Nothing, Motor, Answer, Read, Write}
+use Rattle.packet.specs.declared.Routine.the-variants.{Nothing, Motor, Answer, Read, Write, ParameterList}
+use Rattle.packet.specs.declared.Values.the-variants.{Any, ZeroBits, Page, FormatUnit}
 use Rattle.packet.specs.declared.Known.the-variants.{Unknown, Base}
 
 module _ (test : ℕ → Rule → Bool) where
@@ -22,6 +23,7 @@ opensB Motor = false
 opensB (Answer a) = false
 opensB Read = true
 opensB Write = true
+opensB ParameterList = false
 
 abbrev pub writesB : Routine → Bool
 writesB Nothing = false
@@ -29,12 +31,30 @@ writesB Motor = false
 writesB (Answer a) = false
 writesB Read = false
 writesB Write = true
+writesB ParameterList = false
 
--- what opens blocks asks for a disc and for the range, and a write for no protection
+abbrev pub listsB : Routine → Bool
+listsB Nothing = false
+listsB Motor = false
+listsB (Answer a) = false
+listsB Read = false
+listsB Write = false
+listsB ParameterList = true
+
+abbrev pub formatsB : Values → Bool
+formatsB Any = false
+formatsB (ZeroBits bits) = false
+formatsB Page = false
+formatsB FormatUnit = true
+
+-- what opens blocks asks for a disc and for the range, a write for no protection; a list asks for a disc, its fields and no protection
 pub record Guarded (rule : Rule) : Type 0 where
   pub disc : (not (opensB (rule .routine)) || rule .asked .disc) ≡ true
   pub range : (not (opensB (rule .routine)) || rule .asked .range) ≡ true
   pub unprotected : (not (writesB (rule .routine)) || rule .asked .unprotected) ≡ true
+  pub list-disc : (not (listsB (rule .routine)) || rule .asked .disc) ≡ true
+  pub list-fields : (not (listsB (rule .routine)) || formatsB (rule .values)) ≡ true
+  pub list-unprotected : (not (listsB (rule .routine)) || rule .asked .unprotected) ≡ true
 
 pub guarded : (p : List ℕ) (rule : Rule) → ruleOf p ≡ Base rule → Guarded rule
 unfolding rules
@@ -43,6 +63,9 @@ guarded p rule known =
       disc = of-base (λ code rule. not (opensB (rule .routine)) || rule .asked .disc) refl p rule known;
       range = of-base (λ code rule. not (opensB (rule .routine)) || rule .asked .range) refl p rule known;
       unprotected = of-base (λ code rule. not (writesB (rule .routine)) || rule .asked .unprotected) refl p rule known;
+      list-disc = of-base (λ code rule. not (listsB (rule .routine)) || rule .asked .disc) refl p rule known;
+      list-fields = of-base (λ code rule. not (listsB (rule .routine)) || formatsB (rule .values)) refl p rule known;
+      list-unprotected = of-base (λ code rule. not (listsB (rule .routine)) || rule .asked .unprotected) refl p rule known;
     }
 
 same : (a b : Bool) → Bool·beq a b ≡ true → a ≡ b

@@ -3,10 +3,10 @@ use Rattle.ground.specs.Kit.{Bool, true, false, List, [], _∷_, ℕ}
 use Rattle.packet.specs.declared.{Asked.Asked, Values.Values, Field.Field, Routine.Routine, Known.Known}
 use Rattle.ground.specs.Bytes.{byteAt}
 use Rattle.ground.specs.Tables.{Entry, _is_, find}
-use Rattle.packet.specs.declared.Values.the-variants.{Any, ZeroBits, Page}
+use Rattle.packet.specs.declared.Values.the-variants.{Any, ZeroBits, Page, FormatUnit}
 use Rattle.packet.specs.declared.Field.the-variants.{Nowhere, Byte4, Bytes7To8, Bytes6To9}
 use Rattle.packet.specs.declared.Answering.the-variants.{Sense, Inquiry, FormatCapacities, Capacity, Mode}
-use Rattle.packet.specs.declared.Routine.the-variants.{Nothing, Motor, Answer, Read, Write}
+use Rattle.packet.specs.declared.Routine.the-variants.{Nothing, Motor, Answer, Read, Write, ParameterList}
 use Rattle.packet.specs.declared.Known.the-variants.{Unknown, Base}
 
 -- whether B, C, D, G and H are asked
@@ -41,6 +41,7 @@ baseOf row asked values length routine =
 -- C: "not for 03 and 12"; D: "not for 03, 12, 1B, 1E, 23"
 -- F: "1B has byte 4 bit 1 zero; 1E has byte 4 bit 0 zero; 5A has page .."; H: "2A, 2E, AA"
 -- "G applies to 28, 2A, 2E, 2F, A8, AA; for 2B the length counts as 0."
+-- Req 03: "Add code 04"; "Check F asks for ..; protection is check H"
 unfoldable pub rules : List (Entry Known)
 rules =
     (0x00 is baseOf 0 (askingOf B C D no no) Any Nowhere Nothing)
@@ -59,6 +60,7 @@ rules =
     ∷ (0x5a is baseOf 13 (askingOf B C D no no) Page Bytes7To8 (Answer Mode))
     ∷ (0xa8 is baseOf 14 (askingOf B C D G no) Any Bytes6To9 Read)
     ∷ (0xaa is baseOf 15 (askingOf B C D G H) Any Bytes6To9 Write)
+    ∷ (0x04 is baseOf 16 (askingOf B C D no H) FormatUnit Bytes7To8 ParameterList)
     ∷ []
 
 -- the operation code, and the rule of the command that it is

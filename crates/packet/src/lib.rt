@@ -13,6 +13,8 @@ pub const REZERO_UNIT: u8 = 0x01;
 
 pub const REQUEST_SENSE: u8 = 0x03;
 
+pub const FORMAT_UNIT: u8 = 0x04;
+
 pub const INQUIRY: u8 = 0x12;
 
 pub const START_STOP_UNIT: u8 = 0x1b;
@@ -61,11 +63,12 @@ const H: bool = true;
 
 const NO: bool = false;
 
-// What the checks F and F2 look at: nothing, bits of byte 4 that have to be zero, or page and page control.
+// What the checks F and F2 look at: nothing, bits of byte 4 that have to be zero, page and page control, or the fields of FORMAT UNIT.
 pub enum Values {
     Any,
     ZeroBits(u8),
     Page,
+    FormatUnit,
 }
 
 const ANY: Values = Values::Any;
@@ -75,6 +78,8 @@ const BIT_0_ZERO: Values = Values::ZeroBits(0x01);
 const BIT_1_ZERO: Values = Values::ZeroBits(0x02);
 
 const PAGE: Values = Values::Page;
+
+const FORMAT: Values = Values::FormatUnit;
 
 // Where a command has its length.
 pub enum Field {
@@ -107,6 +112,7 @@ pub enum Routine {
     Answer(Answering),
     Read,
     Write,
+    ParameterList,
 }
 
 const NOTHING: Routine = Routine::Nothing;
@@ -126,6 +132,8 @@ const GIVE_MODE: Routine = Routine::Answer(Answering::Mode);
 const READ: Routine = Routine::Read;
 
 const WRITE: Routine = Routine::Write;
+
+const TAKE_LIST: Routine = Routine::ParameterList;
 
 // A base command: its row of the masks, its check set, its routine.
 pub struct Rule {
@@ -214,6 +222,7 @@ pub fn rule_of(packet: &[u8]) -> Known
         MODE_SENSE => base(13, asking(B, C, D, NO, NO), PAGE, BYTES_7_8, GIVE_MODE),
         READ_12 => base(14, asking(B, C, D, G, NO), ANY, BYTES_6_9, READ),
         WRITE_12 => base(15, asking(B, C, D, G, H), ANY, BYTES_6_9, WRITE),
+        FORMAT_UNIT => base(16, asking(B, C, D, NO, H), FORMAT, BYTES_7_8, TAKE_LIST),
         _ => Known::Unknown,
     }
 }

@@ -1,7 +1,7 @@
 -- A pull by the open transfer: what a proof has to show of it. Assumes nothing.
 use Rattle.ground.specs.Kit.{_≡_, refl, sym, _∙_, List, [], _∷_, ℕ, tagOf, OneOf, miss}
 use Rattle.state.specs.declared.{AnswerAt.AnswerAt, DiscAt.DiscAt, Transfer.Transfer}
-use Rattle.state.specs.declared.Transfer.the-variants.{Closed, Answer, Read, Write}
+use Rattle.state.specs.declared.Transfer.the-variants.{Closed, Answer, Read, Write, ParameterList}
 use Rattle.state.proofs.Transfer.{the-type}
 use Rattle.state.specs.States.{movedOf}
 use Rattle.house.specs.World.{World, Reply}
@@ -22,6 +22,7 @@ pulling Closed = idles (λ buffer disc. refl) (λ w out. refl)
 pulling (Answer p) = answers p refl
 pulling (Read p) = reads p refl
 pulling (Write p) = idles (λ buffer disc. refl) (λ w out. refl)
+pulling (ParameterList p) = idles (λ buffer disc. refl) (λ w out. refl)
 
 module _ (w : World) (out : List ℕ) where
   -- past the house tests the open transfer decides
@@ -56,7 +57,7 @@ module _ (w : World) (out : List ℕ) where
 
 -- what the default of a `match` on the transfer is given, that its tag is none of the others', is enough
 abbrev others : List ℕ
-others = 0 ∷ 3 ∷ []
+others = 0 ∷ 3 ∷ 4 ∷ []
 
 pub unpulled : (w : World) (out : List ℕ) (t : Transfer) → OneOf others (tagOf the-type t) → idle w out ≡ pullBy t w out
 unpulled w out t k = here (pulling t)

@@ -3,7 +3,7 @@ use Rattle.ground.specs.Kit.{false, List, [], ℕ, min, length, take, drop}
 use Rattle.state.specs.declared.{AnswerAt.AnswerAt, DiscAt.DiscAt, Transfer.Transfer}
 use Rattle.ground.specs.Filling.{Filled, fillOf}
 use Rattle.state.specs.States.{movedOf}
-use Rattle.state.specs.declared.Transfer.the-variants.{Closed, Answer, Read, Write}
+use Rattle.state.specs.declared.Transfer.the-variants.{Closed, Answer, Read, Write, ParameterList}
 use Rattle.house.specs.World.{World, inState, Reply, reply, unlessRefused}
 use Rattle.house.specs.Refusals.{moveHouse}
 use Rattle.moves.specs.Replies.{idle, answerAfter, discAfter}
@@ -30,6 +30,7 @@ gives buffer disc Closed = []
 gives buffer disc (Answer p) = take (p .left) (drop (p .at) buffer)
 gives buffer disc (Read p) = take (p .left) (drop (p .at .0) disc)
 gives buffer disc (Write p) = []
+gives buffer disc (ParameterList p) = []
 
 -- "a pull without an open read or answer, gives count 0 and changes nothing"
 abbrev pub pullBy : Transfer → World → List ℕ → Reply
@@ -37,6 +38,7 @@ pullBy Closed w out = idle w out
 pullBy (Answer p) w out = answerPulled p w out
 pullBy (Read p) w out = readPulled p w out
 pullBy (Write p) w out = idle w out
+pullBy (ParameterList p) w out = idle w out
 
 unfoldable pub pullOf : World → List ℕ → Reply
 pullOf w out = unlessRefused (moveHouse w) w out (pullBy (w .state .transfer) w out)

@@ -1,12 +1,13 @@
 // The words that say a record, and the numbers behind each: where they stand in the record behind its header.
 use crate::verbs;
 
-const COMMANDS: usize = 16;
+const COMMANDS: usize = 17;
 
-const CODES: [u8; 16] = [
+const CODES: [u8; 17] = [
     0x00,
     0x01,
     0x03,
+    0x04,
     0x12,
     0x1b,
     0x1e,
@@ -49,6 +50,7 @@ fn number_at(at: u8, bytes: u8, form: u8) -> Field {
 fn first_field(code: u8) -> Field {
     match code {
         0x03 | 0x12 => number_at(4, 1, DECIMAL),
+        0x04 => number_at(1, 1, HEX),
         0x1b | 0x1e => number_at(4, 1, HEX),
         0x23 => number_at(7, 2, DECIMAL),
         0x28 | 0x2a | 0x2b | 0x2e | 0x2f | 0xa8 | 0xaa => number_at(2, 4, DECIMAL),
@@ -59,8 +61,16 @@ fn first_field(code: u8) -> Field {
 
 fn second_field(code: u8) -> Field {
     match code {
+        0x04 => number_at(2, 1, DECIMAL),
         0x28 | 0x2a | 0x2e | 0x2f | 0x5a => number_at(7, 2, DECIMAL),
         0xa8 | 0xaa => number_at(6, 4, DECIMAL),
+        _ => number_at(0, 0, DECIMAL),
+    }
+}
+
+fn third_field(code: u8) -> Field {
+    match code {
+        0x04 => number_at(7, 2, DECIMAL),
         _ => number_at(0, 0, DECIMAL),
     }
 }
@@ -69,6 +79,7 @@ fn command_field(code: u8, words: usize) -> Field {
     match words {
         0 => first_field(code),
         1 => second_field(code),
+        2 => third_field(code),
         _ => number_at(0, 0, DECIMAL),
     }
 }
@@ -103,23 +114,24 @@ fn is_command(word: &[u8], row: usize) -> bool {
         0 => check::same(word, b"test-unit-ready"),
         1 => check::same(word, b"rezero-unit"),
         2 => check::same(word, b"request-sense"),
-        3 => check::same(word, b"inquiry"),
-        4 => check::same(word, b"start-stop-unit"),
-        5 => check::same(word, b"prevent-removal"),
-        6 => check::same(word, b"read-format-capacities"),
-        7 => check::same(word, b"read-capacity"),
-        8 => check::same(word, b"read"),
-        9 => check::same(word, b"write"),
-        10 => check::same(word, b"seek"),
-        11 => check::same(word, b"write-and-verify"),
-        12 => check::same(word, b"verify"),
-        13 => check::same(word, b"mode-sense"),
-        14 => check::same(word, b"read-12"),
+        3 => check::same(word, b"format-unit"),
+        4 => check::same(word, b"inquiry"),
+        5 => check::same(word, b"start-stop-unit"),
+        6 => check::same(word, b"prevent-removal"),
+        7 => check::same(word, b"read-format-capacities"),
+        8 => check::same(word, b"read-capacity"),
+        9 => check::same(word, b"read"),
+        10 => check::same(word, b"write"),
+        11 => check::same(word, b"seek"),
+        12 => check::same(word, b"write-and-verify"),
+        13 => check::same(word, b"verify"),
+        14 => check::same(word, b"mode-sense"),
+        15 => check::same(word, b"read-12"),
         _ => check::same(word, b"write-12"),
     }
 }
 
-// Which row of the table has that name, 16 for none.
+// Which row of the table has that name, 17 for none.
 fn row_of(word: &[u8]) -> usize {
     let mut row = 0;
     while row < COMMANDS && !is_command(word, row) {

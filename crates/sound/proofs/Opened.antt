@@ -1,11 +1,11 @@
 -- What soundness says of an open transfer, in numbers, and back. Assumes nothing.
 use Rattle.ground.specs.Kit.{_≡_, refl, true, not, _&&_, ℕ, _+_, _%_, _≤_, _<_, arith, eqb-true, eqb-false, leb-true, ltb-true, ne-eqb, le-leb, lt-ltb, not-true, eqb, leb, ltb}
-use Rattle.state.specs.declared.{AnswerAt.AnswerAt, DiscAt.DiscAt, Media.Media, Transfer.Transfer}
-use Rattle.disc.specs.Formats.{bufferBytes, blockBytes, discBytes}
+use Rattle.state.specs.declared.{AnswerAt.AnswerAt, DiscAt.DiscAt, ListAt.ListAt, Media.Media, Transfer.Transfer}
+use Rattle.disc.specs.Formats.{formatOf, bufferBytes, blockBytes, discBytes}
 use Rattle.ground.proofs.Truth.{both}
-use Rattle.state.specs.declared.Transfer.the-variants.{Closed, Answer, Read, Write}
-use Rattle.state.specs.States.{leftOf, isOpenB}
-use Rattle.sound.specs.Soundness.{onDiscB, endsOnBlockB, openSoundB}
+use Rattle.state.specs.declared.Transfer.the-variants.{Closed, Answer, Read, Write, ParameterList}
+use Rattle.state.specs.States.{listBytes, leftOf, isOpenB}
+use Rattle.sound.specs.Soundness.{onDiscB, endsOnBlockB, listSoundB, openSoundB}
 
 -- "an answer: within the block buffer"
 pub record InBuffer (p : AnswerAt) : Type 0 where
@@ -82,6 +82,45 @@ module _ (m : Media) (p : DiscAt) where
   unfolding openSoundB
   writes-sound w = rw (on-disc-sound (m .disc) p (w .on), ends-sound (m .disc) p (w .ends), w .bare)
 
+-- a list: 1 to 12 bytes left, its track on the disc, which is unprotected
+pub record Lists (m : Media) (p : ListAt) : Type 0 where
+  pub some : 0 < p .left
+  pub few : p .left ≤ listBytes
+  pub track : p .track < formatOf (m .disc) .cylinders
+  pub bare : not (m .protected) ≡ true
+  pub is-in : m .disc ≡ 0 → ⊥
+
+module _ (m : Media) (p : ListAt) where
+  pub lists : openSoundB m (ParameterList p) ≡ true → Lists m p
+  unfolding openSoundB listSoundB
+  lists e =
+      let some = ltb 0 (p .left) in
+      let few = leb (p .left) listBytes in
+      let track = ltb (p .track) (formatOf (m .disc) .cylinders) in
+      let bare = not (m .protected) in
+      let (sftb, i) = both (some && few && track && bare) (not (eqb (m .disc) 0)) e in
+      let (sft, b) = both (some && few && track) bare sftb in
+      let (sf, t) = both (some && few) track sft in
+      let (s, f) = both some few sf in
+      record {
+        some = ltb-true 0 (p .left) s;
+        few = leb-true (p .left) listBytes f;
+        track = ltb-true (p .track) (formatOf (m .disc) .cylinders) t;
+        bare = b;
+        is-in = eqb-false (m .disc) 0 (not-true (eqb (m .disc) 0) i);
+      }
+
+  pub lists-sound : Lists m p → openSoundB m (ParameterList p) ≡ true
+  unfolding openSoundB listSoundB
+  lists-sound l =
+      rw (
+        lt-ltb 0 (p .left) (l .some),
+        le-leb (p .left) listBytes (l .few),
+        lt-ltb (p .track) (formatOf (m .disc) .cylinders) (l .track),
+        l .bare,
+        ne-eqb (m .disc) 0 (l .is-in),
+      )
+
 some : (n : ℕ) → 0 < n → true ≡ not (eqb n 0)
 some n h = rw (ne-eqb n 0 (λ z. omega arith))
 
@@ -92,6 +131,7 @@ open-left m Closed e = refl
 open-left m (Answer p) e = some (p .left) (in-buffer m p e .some)
 open-left m (Read p) e = some (p .left) (on-disc (m .disc) p e .some)
 open-left m (Write p) e = some (p .left) (writes m p e .on .some)
+open-left m (ParameterList p) e = some (p .left) (lists m p e .some)
 
 -- without a disc nothing but an answer is open
 pub data Discless (t : Transfer) : Type 0 where
@@ -104,3 +144,4 @@ discless m none Closed e = shut refl
 discless m none (Answer p) e = answers p refl
 discless m none (Read p) e = absurd (on-disc (m .disc) p e .is-in none)
 discless m none (Write p) e = absurd (writes m p e .on .is-in none)
+discless m none (ParameterList p) e = absurd (lists m p e .is-in none)

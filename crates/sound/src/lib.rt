@@ -1,7 +1,8 @@
 // The test that a state is sound.
 ghost use Rattle.ground.specs.Kit.{_≡_, _+_, leb};
-ghost use Rattle.sound.specs.Soundness.{endsOnBlockB, onDiscB, openSoundB, soundB};
+ghost use Rattle.sound.specs.Soundness.{endsOnBlockB, onDiscB, listSoundB, openSoundB, soundB};
 use state::DiscAt;
+use state::ListAt;
 use state::Media;
 use state::State;
 use state::Transfer;
@@ -37,6 +38,18 @@ fn on_disc(number: u8, p: DiscAt) -> bool
     (number != 0) & (0 < p.left) & ends_within(p.at.0, p.left, full)
 }
 
+// 1 to 12 bytes left of a list, for a track of an unprotected disc that is in.
+fn list_soundly(media: Media, p: ListAt) -> bool
+    ensures { λ r. ⌜ r ≡ listSoundB media p ⌝ }
+{
+    let format = disc::format_of(media.disc);
+    (0 < p.left)
+        & (p.left <= state::LIST_BYTES)
+        & ((p.track as u16) < format.cylinders)
+        & !media.protected
+        & (media.disc != 0)
+}
+
 fn open_soundly(media: Media, transfer: Transfer) -> bool
     ensures { λ r. ⌜ r ≡ openSoundB media transfer ⌝ }
 {
@@ -47,6 +60,7 @@ fn open_soundly(media: Media, transfer: Transfer) -> bool
         Transfer::Write(p) => {
             on_disc(media.disc, p) & ends_on_block(media.disc, p) & !media.protected
         }
+        Transfer::ParameterList(p) => list_soundly(media, p),
     }
 }
 

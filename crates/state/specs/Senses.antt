@@ -37,6 +37,10 @@ outOfRange = triple 0x05 0x21 0x00
 abbrev pub isProtected : Sense
 isProtected = triple 0x07 0x27 0x00
 
+-- that of a parameter list that is refused
+abbrev pub badList : Sense
+badList = triple 0x05 0x26 0x00
+
 abbrev pub sameB : Sense → Sense → Bool
 sameB a b = eqb (a .0) (b .0) && eqb (a .1) (b .1) && eqb (a .2) (b .2)
 
@@ -57,4 +61,5 @@ namedB s =
     ∷ notSaved
     ∷ outOfRange
     ∷ isProtected
+    ∷ badList
     ∷ [])

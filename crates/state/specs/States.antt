@@ -1,7 +1,7 @@
 -- Paper 01, "State": what the drive remembers, and what each kind of call makes of it.
 use Rattle.ground.specs.Kit.{Bool, true, false, cond, not, _&&_, ℕ, eqb}
 use Rattle.state.specs.declared.{Sense.Sense, Media.Media, Host.Host, State.State, Transfer.Transfer}
-use Rattle.state.specs.declared.Transfer.the-variants.{Closed, Answer, Read, Write}
+use Rattle.state.specs.declared.Transfer.the-variants.{Closed, Answer, Read, Write, ParameterList}
 use Rattle.state.specs.Senses.{noSense, powerTold, changeTold, noDisc, sameB}
 
 -- "Disc number, write protection"
@@ -28,18 +28,24 @@ powerOn = stateOf noMedia false (hostOf true false noSense) Closed
 abbrev pub told : Host → Sense → Host
 told h sense = hostOf (not (sameB sense powerTold) && h .power) (not (sameB sense changeTold) && h .change) sense
 
+-- Req 03: "The 12-byte parameter list"
+abbrev pub listBytes : ℕ
+listBytes = 12
+
 -- how many bytes are left of a transfer
 abbrev pub leftOf : Transfer → ℕ
 leftOf Closed = 0
 leftOf (Answer p) = p .left
 leftOf (Read p) = p .left
 leftOf (Write p) = p .left
+leftOf (ParameterList p) = p .left
 
 abbrev pub isOpenB : Transfer → Bool
 isOpenB Closed = false
 isOpenB (Answer p) = true
 isOpenB (Read p) = true
 isOpenB (Write p) = true
+isOpenB (ParameterList p) = true
 
 -- "with 0 bytes it stays closed"; "length 0 passes and stays closed"; "At 0 left the transfer closes."
 abbrev pub closedAtZero : Transfer → Transfer

@@ -27,6 +27,8 @@ pub const OUT_OF_RANGE: Sense = Sense(0x05, 0x21, 0x00);
 
 pub const PROTECTED: Sense = Sense(0x07, 0x27, 0x00);
 
+pub const BAD_LIST: Sense = Sense(0x05, 0x26, 0x00);
+
 // The disc that is in, 0 for none, and its protection.
 pub struct Media {
     pub disc: u8,
@@ -57,11 +59,21 @@ pub struct DiscAt {
     pub left: usize,
 }
 
+// The bytes of a parameter list.
+pub const LIST_BYTES: usize = 12;
+
+// A parameter list: the track that its command names, and how many of its bytes are to come.
+pub struct ListAt {
+    pub track: u8,
+    pub left: usize,
+}
+
 pub enum Transfer {
     Closed,
     Answer(AnswerAt),
     Read(DiscAt),
     Write(DiscAt),
+    ParameterList(ListAt),
 }
 
 pub struct State {
@@ -91,6 +103,7 @@ pub fn named(sense: Sense) -> bool
         | same(sense, NOT_SAVED)
         | same(sense, OUT_OF_RANGE)
         | same(sense, PROTECTED)
+        | same(sense, BAD_LIST)
 }
 
 pub fn power_on() -> State
@@ -129,6 +142,7 @@ fn left_of(transfer: Transfer) -> usize
         Transfer::Answer(p) => p.left,
         Transfer::Read(p) => p.left,
         Transfer::Write(p) => p.left,
+        Transfer::ParameterList(p) => p.left,
     }
 }
 
@@ -163,6 +177,7 @@ fn is_open(transfer: Transfer) -> bool
         Transfer::Answer(_) => true,
         Transfer::Read(_) => true,
         Transfer::Write(_) => true,
+        Transfer::ParameterList(_) => true,
     }
 }
 

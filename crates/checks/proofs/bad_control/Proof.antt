@@ -12,4 +12,6 @@ bad-control-spec =
     (λ _ _. tt)
     (λ c. search needs)
     (λ c. search needs)
-    (λ c. rw (c .byte .ensures, c .before .enum-told3 .given .1)))
+    (λ c. search needs)
+    (λ c. rw (c .byte .ensures, c .before .enum-told3 .given .1))
+    (λ c. rw (c .enum-told4 .given .1)))

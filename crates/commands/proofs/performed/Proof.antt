@@ -40,6 +40,10 @@ returns-5 c w =
     let told = c .before in
     rw (told .enum-told4 .given .1, c .passed5 .ensures, spanned (told .before .before))
 
+returns-6 : tie.Need-returns-6
+unfolding performedOf
+returns-6 c w = rw (c .before .before .enum-told5 .given .1, c .passed6 .ensures, c .before .byte2 .ensures)
+
 pub performed-spec : {M : Type 1} → statement M
 performed-spec =
     tie.close
@@ -60,9 +64,13 @@ performed-spec =
     (λ _ _. tt)
     (λ c. search needs)
     (λ _ _. tt)
+    (λ c. search needs)
+    (λ _ _. tt)
+    (λ _ _. tt)
     returns
     returns-2
     (λ c. search needs)
     returns-3
     returns-4
-    returns-5)
+    returns-5
+    returns-6)

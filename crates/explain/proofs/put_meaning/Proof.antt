@@ -35,14 +35,14 @@ commanded c =
 fed : tie.Need-returns-4
 fed c =
     let put = c .before .before in
-    let told = put .before .before .before .before .before in
-    rw (← told .before .before .first-record .ensures, told .told2 .given .1) (put .put-move .ensures)
+    let told = put .before .before .before in
+    rw (← told .before .before .first-record .ensures, told .told2 .given .1) (put .put-fed .ensures)
 
 pulled : tie.Need-returns-5
 pulled c =
     let put = c .before .before in
     let told = put .before .before .before .before .before in
-    rw (← told .before .before .first-record .ensures, told .told3 .given .1) (put .put-move2 .ensures)
+    rw (← told .before .before .first-record .ensures, told .told3 .given .1) (put .put-move .ensures)
 
 bad : tie.Need-returns-6
 unfolding badText
@@ -66,8 +66,6 @@ put-meaning-spec =
     packet-there
     (λ _ _. tt)
     (λ c. search needs)
-    (λ c. refl)
-    (λ c. refl)
     (λ _ _. tt)
     (λ c. search needs)
     (λ c. refl)

@@ -2,9 +2,9 @@ use Rattle.ground.specs.Kit.{sym, _∙_, needs, ne-eqb}
 use Rattle.house.specs.World.{World, inState, inLent, someWorld}
 use Rattle.house.specs.Theorems.{Ready}
 use Rattle.house.proofs.Houses.{in-ready}
-use Rattle.moves.proofs.Spans.{may-write}
+use Rattle.moves.proofs.Spans.{may-write, may-list}
 use Rattle.feeds.specs.Feeding.{feedOf}
-use Rattle.feeds.proofs.ByTransfer.{feeds, feeds-write, unfed}
+use Rattle.feeds.proofs.ByTransfer.{feeds, feeds-write, feeds-list, unfed}
 use Rattle.feeds.proofs.feed.Statement.{statement}
 use Rattle.feeds.proofs.feed.Tie as tie
 
@@ -31,11 +31,24 @@ returns-2 c w =
     let past = transfer .before .before in
     call .feed-write .ensures w ∙ feeds-write (entered past w) _ (ready past w) _ (transfer .transfer .given .1)
 
+feed-list-requires : tie.Need-feed-list-requires
+feed-list-requires c _ =
+    let transfer = c .before .before .before in
+    let past = transfer .before .before in
+    (may-list (entered past someWorld) (ready past someWorld) _ (transfer .transfer2 .given .1) .few, ready past someWorld .buffer)
+
 returns-3 : tie.Need-returns-3
-returns-3 c v =
+returns-3 c w =
+    let call = c .before .before .before .before in
+    let transfer = call .before .before .before .before in
+    let past = transfer .before .before in
+    call .feed-list .ensures w ∙ feeds-list (entered past w) _ (ready past w) _ (transfer .transfer2 .given .1)
+
+returns-4 : tie.Need-returns-4
+returns-4 c v =
     let past = c .before in
     let w = entered past v in
-    rw (feeds w _ (ready past v)) (unfed w _ (w .state .transfer) (c .match .keys2))
+    rw (feeds w _ (ready past v)) (unfed w _ (w .state .transfer) (c .match .keys3))
 
 pub feed-spec : {M : Type 1} → statement M
 feed-spec =
@@ -47,6 +60,11 @@ feed-spec =
     (λ c. search needs)
     feed-write-requires
     (λ c. search needs)
+    feed-list-requires
+    (λ c. search needs)
     (λ c. search needs)
     returns-2
-    returns-3)
+    (λ c. search needs)
+    (λ c. search needs)
+    returns-3
+    returns-4)

@@ -7,9 +7,9 @@ use Rattle.packet.proofs.rule_of.Tie as tie
 
 -- the keys of the arms, the last first
 abbrev keys : List ℕ
-keys = 0xaa ∷ 0xa8 ∷ 0x5a ∷ 0x2f ∷ 0x2e ∷ 0x2b ∷ 0x2a ∷ 0x28 ∷ 0x25 ∷ 0x23 ∷ 0x1e ∷ 0x1b ∷ 0x12 ∷ 0x03 ∷ 0x01 ∷ 0x00 ∷ []
+keys = 0x04 ∷ 0xaa ∷ 0xa8 ∷ 0x5a ∷ 0x2f ∷ 0x2e ∷ 0x2b ∷ 0x2a ∷ 0x28 ∷ 0x25 ∷ 0x23 ∷ 0x1e ∷ 0x1b ∷ 0x12 ∷ 0x03 ∷ 0x01 ∷ 0x00 ∷ []
 
-unknown : tie.Need-returns-17
+unknown : tie.Need-returns-18
 unfolding ruleOf rules
 unknown c =
     let none = subst (λ (code : ℕ). NoneOf code keys) (c .before .byte .ensures) (c .match .rest) in
@@ -21,6 +21,7 @@ rule-of-spec =
     tie.close
     (tie.spec
     (λ _ _. tt)
+    (λ _ _. tt) (λ _ _. tt)
     (λ _ _. tt) (λ _ _. tt)
     (λ _ _. tt) (λ _ _. tt)
     (λ _ _. tt) (λ _ _. tt)
@@ -53,4 +54,5 @@ rule-of-spec =
     (λ c. let m = c .before .before in rw (← m .before .byte .ensures, m .match .keys14, c .base14 .ensures, c .before .asking14 .ensures))
     (λ c. let m = c .before .before in rw (← m .before .byte .ensures, m .match .keys15, c .base15 .ensures, c .before .asking15 .ensures))
     (λ c. let m = c .before .before in rw (← m .before .byte .ensures, m .match .keys16, c .base16 .ensures, c .before .asking16 .ensures))
+    (λ c. let m = c .before .before in rw (← m .before .byte .ensures, m .match .keys17, c .base17 .ensures, c .before .asking17 .ensures))
     unknown)

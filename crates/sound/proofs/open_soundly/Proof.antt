@@ -21,6 +21,10 @@ returns-4 c =
     let disc = c .before .before in
     rw (disc .before .before .transfer3 .given .1, c .before .ends-on-block .ensures, disc .on-disc2 .ensures)
 
+returns-5 : tie.Need-returns-5
+unfolding openSoundB
+returns-5 c = rw (c .before .before .transfer4 .given .1, c .list-soundly .ensures)
+
 pub open-soundly-spec : {M : Type 1} → statement M
 open-soundly-spec =
     tie.close
@@ -33,7 +37,10 @@ open-soundly-spec =
     (λ c. search needs)
     (λ _ _. tt)
     (λ _ _. tt)
+    (λ c. search needs)
+    (λ _ _. tt)
     returns
     returns-2
     returns-3
-    returns-4)
+    returns-4
+    returns-5)

@@ -5,7 +5,8 @@ use Rattle.state.proofs.named.Tie as tie
 returns : tie.Need-returns
 unfolding namedB
 returns c =
-    let s9 = c .before in
+    let s10 = c .before in
+    let s9 = s10 .before in
     let s8 = s9 .before in
     let s7 = s8 .before in
     let s6 = s7 .before in
@@ -15,7 +16,8 @@ returns c =
     let s2 = s3 .before in
     let s1 = s2 .before in
     rw (
-      c .same10 .ensures,
+      c .same11 .ensures,
+      s10 .same10 .ensures,
       s9 .same9 .ensures,
       s8 .same8 .ensures,
       s7 .same7 .ensures,
@@ -31,6 +33,7 @@ pub named-spec : {M : Type 1} → statement M
 named-spec =
     tie.close
     (tie.spec
+    (λ _ _. tt)
     (λ _ _. tt)
     (λ _ _. tt)
     (λ _ _. tt)

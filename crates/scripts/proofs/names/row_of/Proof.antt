@@ -6,7 +6,7 @@ abbrev Inv-loop : tie.InvT-loop
 Inv-loop word row₀ row = Unit
 
 abbrev μ-loop : tie.MeasureT-loop
-μ-loop word row₀ row = 16 - row
+μ-loop word row₀ row = 17 - row
 
 pub row-of-spec : {M : Type 1} → statement M
 row-of-spec =
