@@ -1,5 +1,5 @@
 -- A parameter list that is cut after its first byte is taken and judged as it is whole. Assumes nothing.
-use Rattle.ground.specs.Kit.{_≡_, refl, sym, ap, subst, _∙_, Bool, true, false, List, [], _∷_, ℕ, suc, _+_, _-_, _<_, min, sub-zero, add-zero, arith, eqb, eqb-true, eqb-false, eq-eqb, ne-eqb, length, take, set, sets}
+use Rattle.ground.specs.Kit.{_≡_, refl, sym, ap, subst, _∙_, Bool, true, false, List, [], _∷_, ℕ, suc, _+_, _-_, min, sub-zero, arith, eqb, eqb-true, eqb-false, eq-eqb, ne-eqb, length, take, sets}
 use Rattle.state.specs.declared.{State.State, ListAt.ListAt}
 use Rattle.state.specs.declared.Transfer.the-variants.{Closed, ParameterList}
 use Rattle.state.specs.States.{listBytes, obeyedOf, movedOf}

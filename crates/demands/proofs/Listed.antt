@@ -1,5 +1,5 @@
 -- A feed of an open parameter list leaves the ledger in agreement. Assumes nothing.
-use Rattle.ground.specs.Kit.{_≡_, refl, sym, ap, _∙_, true, false, cond, List, [], _++_, append-assoc, flatten, ℕ, _+_, _-_, _<_, _≤_, min, add-zero, arith, eq-eqb, ne-eqb, eqb, leb-true, length, length-append, take, drop, length-take-le, take-at, sets, sets-eq, eq-of-mul-eq-mul-right}
+use Rattle.ground.specs.Kit.{_≡_, refl, sym, ap, _∙_, true, false, cond, List, [], _++_, flatten, ℕ, _+_, _-_, _<_, _≤_, min, add-zero, arith, eq-eqb, ne-eqb, eqb, leb-true, length, length-append, take, drop, length-take-le, take-at, sets, sets-eq, eq-of-mul-eq-mul-right}
 use Rattle.state.specs.declared.{Media.Media, Host.Host, ListAt.ListAt}
 use Rattle.disc.specs.Formats.{formatOf, blockBytes, runBytes, discBytes}
 use Rattle.disc.proofs.Discs.{block-holds}
@@ -16,7 +16,7 @@ use Rattle.moves.specs.Replies.{listAfter}
 use Rattle.moves.proofs.Spans.{may-list}
 use Rattle.feeds.specs.Feeding.{listGathers, listGoes}
 use Rattle.feeds.proofs.ByTransfer.{by-list}
-use Rattle.demands.specs.Ledger.{Listing, list, Ledger, listed, judges, fedTo, fed}
+use Rattle.demands.specs.Ledger.{Listing, list, Ledger, listed, judgesList, fedTo, fed}
 use Rattle.demands.proofs.BlockLists.{Even, even-length}
 use Rattle.demands.proofs.Reformatting.{reformat-even, formats}
 use Rattle.demands.proofs.Agreeing.{shut, closing, Agrees}
@@ -63,7 +63,7 @@ module _ (w : World) (l : Ledger) (a : Agrees w l) (ready : Ready w) (p : ListAt
 
   -- the ledger's next entry
   abbrev next : Ledger
-  next = cond (eqb (length all) 12) (judges l (p .track) all) (listed (l .media) (l .host) (l .stored) (p .track) all)
+  next = cond (eqb (length all) 12) (judgesList l (p .track) all) (listed (l .media) (l .host) (l .stored) (p .track) all)
 
   noted-so : fed l xs ≡ next
   noted-so = ap (λ (k : Listing). fedTo k l xs) (rw e at (a .opened) .listed)

@@ -9,7 +9,7 @@ use Rattle.sound.proofs.Opened.{lists}
 use Rattle.house.specs.World.{World, Reply, reply, heard}
 use Rattle.house.specs.Theorems.{Ready}
 use Rattle.moves.specs.Replies.{idle, answerAfter, discAfter}
-use Rattle.moves.proofs.Spans.{open-sound, may-answer, may-read, may-write, may-list}
+use Rattle.moves.proofs.Spans.{open-sound, may-answer, may-read, may-write}
 use Rattle.feeds.specs.Feeding.{Writing, writing, feedBytes, written, takes, writeFed, listFed}
 use Rattle.feeds.proofs.Feeding.{feed-at}
 use Rattle.feeds.proofs.ByTransfer.{by-feeding}
@@ -17,7 +17,7 @@ use Rattle.pulls.specs.Pulling.{answerPulled, readPulled, gives}
 use Rattle.pulls.proofs.ByTransfer.{by-pulling}
 use Rattle.drive.specs.Calls.{Call, Feed, Pull}
 use Rattle.drive.proofs.Calling.{acceptedOf}
-use Rattle.demands.specs.Ledger.{Store, Listing, none, list, Ledger, listedIn, gather, fedTo, fed, noted}
+use Rattle.demands.specs.Ledger.{Store, Listing, none, Ledger, listedIn, gather, fedTo, fed, noted}
 use Rattle.demands.specs.Faithful.{foretells}
 use Rattle.demands.proofs.BlockLists.{Even}
 use Rattle.demands.proofs.Gathering.{Gathered, gathered}

@@ -1,9 +1,9 @@
 -- A disc that is formatted is the ledger's blocks that are. Assumes nothing.
-use Rattle.ground.specs.Kit.{_≡_, refl, sym, ap, _∙_, Bool, true, false, List, [], _∷_, _++_, append-assoc, cond, flatten, ℕ, suc, _+_, _*_, _≤_, _<_, zero-mul, suc-mul, add-zero, add-comm, add-mul, le-refl, arith, lt-leb, le-leb, lt-ltb, le-ltb, length, take, drop, length-drop, length-take-le, length-replicate, replicate, replicate-append-replicate, take-append-drop, drop-drop, mul-le-mul-right, sets, sets-eq}
+use Rattle.ground.specs.Kit.{_≡_, refl, sym, ap, _∙_, Bool, true, false, List, [], _∷_, _++_, append-assoc, cond, not, _||_, flatten, ℕ, suc, _+_, _*_, _/_, _≤_, _<_, zero-mul, suc-mul, add-zero, add-comm, add-mul, le-refl, arith, eqb, lt-leb, le-leb, lt-ltb, le-ltb, length, take, drop, length-drop, length-take-le, length-replicate, replicate, replicate-append-replicate, take-append-drop, drop-drop, mul-le-mul-right, sets, sets-eq}
 use Rattle.ground.proofs.Parts.{flatten-append}
 use Rattle.disc.specs.Formats.{formatOf, blockBytes, runBytes, placeOf}
 use Rattle.disc.proofs.Discs.{track-holds}
-use Rattle.lists.specs.Lists.{sideOf, meantOf, formatted}
+use Rattle.lists.specs.Lists.{singleTrackB, sideOf, meantOf, formatted}
 use Rattle.lists.proofs.Formatting.{by-meant, meant-within, among-side}
 use Rattle.demands.specs.Ledger.{meantB, reformat, reformatted}
 use Rattle.demands.proofs.BlockLists.{Even, even-length, from-block, some-blocks}
@@ -11,11 +11,11 @@ use Rattle.demands.proofs.BlockLists.{Even, even-length, from-block, so
 module _ (b : ℕ) (meant : ℕ → Bool) where
   pub reformat-even : (k : ℕ) (bs : List (List ℕ)) → Even b bs → Even b (reformat b meant k bs)
   reformat-even k [] e = tt
-  reformat-even k (x ∷ xs) e = (here (meant k), reformat-even (suc k) xs (e .1))
+  reformat-even k (x ∷ xs) e = (here (meant k) _, reformat-even (suc k) xs (e .1))
     where
-      here : (t : Bool) → length (cond t (replicate b 0xf6) x) ≡ b
-      here true = length-replicate b 0xf6
-      here false = e .0
+      here : (t : Bool) (v : ℕ) → length (cond t (replicate b v) x) ≡ b
+      here true v = length-replicate b v
+      here false v = e .0
 
   append : (k : ℕ) (xs ys : List (List ℕ)) → reformat b meant k (xs ++ ys) ≡ reformat b meant k xs ++ reformat b meant (k + length xs) ys
   append k [] ys = rw (add-zero k)
@@ -97,17 +97,20 @@ formats number track list blocks low high on even all =
     let s = formatOf number .sectors in
     let h = track * 2 + sideOf list in
     let pos = track-holds number low high in
+    let as-side : singleTrackB list ≡ true → (i : ℕ) → meantB number track list i ≡ eqb (i / s) h = λ single i.
+    ap (λ (b : Bool). not b || eqb (i / s) h) single in
+    let all-meant : singleTrackB list ≡ false → (i : ℕ) → meantB number track list i ≡ true = λ none i. ap (λ (b : Bool). not b || eqb (i / s) h) none in
     by-meant (formatOf number) track list
     (λ m. m .first .0 + m .count ≤ formatOf number .blocks
     → flatten (reformatted number track list blocks) ≡ sets (flatten blocks) (m .first .0 * b) (replicate (m .count * b) 0xf6))
     (λ single fits.
     refilled b (meantB number track list) (h * s) s blocks even (rw all fits)
-    (λ i below. rw (single, ← among-side s h i pos, lt-leb (h * s) i below))
-    (λ i from to. rw (single, ← among-side s h i pos, le-leb (h * s) i from, lt-ltb i (h * s + s) to))
-    (λ i from to. rw (single, ← among-side s h i pos, le-leb (h * s) i (omega arith), le-ltb i (h * s + s) from)))
+    (λ i below. as-side single i ∙ rw (← among-side s h i pos, lt-leb (h * s) i below))
+    (λ i from to. as-side single i ∙ rw (← among-side s h i pos, le-leb (h * s) i from, lt-ltb i (h * s + s) to))
+    (λ i from to. as-side single i ∙ rw (← among-side s h i pos, le-leb (h * s) i (omega arith), le-ltb i (h * s + s) from)))
     (λ whole fits.
     refilled b (meantB number track list) 0 (formatOf number .blocks) blocks even (rw all fits)
     (λ i below. absurd (omega arith))
-    (λ i from to. rw whole)
+    (λ i from to. all-meant whole i)
     (λ i from to. absurd (omega arith)))
     within

@@ -45,6 +45,18 @@ some-bytes = lit≤ tt
 first-filled : (v x : ℕ) (l : List ℕ) → getD (sets (x ∷ l) (placeOf 4 (record { 0 = 0 }) .0) (replicate (runBytes 4 64) v)) 0 0 ≡ v
 first-filled v x l = rw first-place (first-set (runBytes 4 64) v x l some-bytes)
 
+-- and where the 8 blocks of side 0 of track 3 are
+behind : (vs l : List ℕ) (at : ℕ) → 0 < at → getD (sets l at vs) 0 0 ≡ getD l 0 0
+behind vs l (suc at) some = first-kept vs l at
+
+track-place : 0 < placeOf 4 (record { 0 = 48 }) .0
+unfolding placeOf runBytes blockBytes formatOf
+track-place = lit≤ tt
+
+first-unformatted : (x : ℕ) (l : List ℕ) → getD (formatted 4 (blocksFrom 48 8) (x ∷ l)) 0 0 ≡ x
+unfolding formatted
+first-unformatted x l = behind (replicate (runBytes 4 8) 0xf6) (x ∷ l) (placeOf 4 (record { 0 = 48 }) .0) track-place
+
 first-formatted : (x : ℕ) (l : List ℕ) → getD (formatted 4 (blocksFrom 0 64) (x ∷ l)) 0 0 ≡ 0xf6
 unfolding formatted
 first-formatted x l = first-filled 0xf6 x l
@@ -93,10 +105,10 @@ module _ (rest : List ℕ) (d : length rest ≡ 32767) where
 
   -- with Single Track the first block is not of track 3
   pub formats-all : Accounts formatsAll → ⊥
-  unfolding noted formatOf blockBytes runBytes placeOf badListB meantOf formatted listJudged movedOf
+  unfolding noted formatOf badListB meantOf listJudged movedOf
   formats-all f =
       let e = fed f (whole 0x10) (rw (our .feeds-list (whole 0x10)) (λ z. omega arith)) in
-      apart (rw (our .feeds-list (whole 0x10)) at e) 0xf6 7 refl (first-kept (replicate 4096 0xf6) disc 24575) (λ z. omega arith)
+      apart (rw (our .feeds-list (whole 0x10)) at e) 0xf6 7 refl (first-unformatted 7 rest) (λ z. omega arith)
 
   pub formats-immediate : Accounts formatsImmediate → ⊥
   unfolding noted formatOf badListB meantOf listJudged obeyedOf movedOf

@@ -1,5 +1,6 @@
--- Demand 2: "Each command passes or fails by UFI revision 1.0 as narrowed in paper 01, with the triple of the first check that fails.
--- While only our calls touch the disc, each block read holds the bytes last stored whole since insertion, else those it came in with.
+-- Demand 2, as Req 03 has it: "Each command passes or fails by UFI revision 1.0 as narrowed in paper 01, with the triple of the first check
+-- that fails. While only our calls touch the disc, each block read holds the bytes last stored whole or formatted since insertion, else those it
+-- came in with.
 -- After an accepted insertion, while power stays on, only INQUIRY and REQUEST SENSE pass until some command has answered 06 28 00."
 use Rattle.ground.specs.Kit.{_≡_, Bool, true, false, cond, not, _||_, List, [], _∷_, _++_, flatten, ℕ, min, eqb, length, take, drop}
 use Rattle.state.specs.Senses.{triple}
@@ -13,7 +14,7 @@ use Rattle.demands.specs.Device.{Device, after}
 use Rattle.demands.specs.Answered.{judgedOf}
 use Rattle.demands.specs.Ledger.{Ledger, blank, ledgerOf, fed, known, noted}
 
--- ---- "each block read holds the bytes last stored whole since insertion, else those it came in with"
+-- ---- "each block read holds the bytes last stored whole or formatted since insertion, else those it came in with"
 
 -- the world and the ledger side by side; the ledger sees the call and what was heard
 pub record Run : Type 0 where

@@ -139,8 +139,8 @@ reformat size meant k (b ∷ bs) = cond (meant k) (replicate size 0xf6) b ∷ re
 abbrev pub reformatted : ℕ → ℕ → List ℕ → List (List ℕ) → List (List ℕ)
 reformatted number track got blocks = reformat (blockBytes number) (meantB number track got) 0 blocks
 
-abbrev pub judges : Ledger → ℕ → List ℕ → Ledger
-judges l track got =
+abbrev pub judgesList : Ledger → ℕ → List ℕ → Ledger
+judgesList l track got =
     let number = l .media .disc in
     cond (badListB (formatOf number) got) (ledger (l .media) (hearing (l .host) (triple 0x05 0x26 0x00)) (l .stored) 0 [])
     (ledger (l .media) (l .host) (unwritten (reformatted number track got (l .stored .blocks))) 0 [])
@@ -164,7 +164,7 @@ abbrev pub fedTo : Listing → Ledger → List ℕ → Ledger
 fedTo none l xs = ledger (l .media) (l .host) (gather (blockBytes (l .media .disc)) (l .stored) xs) (l .left - length xs) (l .coming)
 fedTo (list track got) l xs =
     let all = got ++ xs in
-    cond (eqb (length all) 12) (judges l track all) (listed (l .media) (l .host) (l .stored) track all)
+    cond (eqb (length all) 12) (judgesList l track all) (listed (l .media) (l .host) (l .stored) track all)
 
 abbrev pub fed : Ledger → List ℕ → Ledger
 fed l xs = fedTo (l .listing) l xs

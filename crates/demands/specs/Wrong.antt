@@ -2,15 +2,17 @@
 use Rattle.ground.specs.Kit.{_≡_, Bool, true, false, cond, not, _&&_, List, [], _∷_, _++_, ℕ, _+_, _-_, min, eqb, length, take, drop, replicate, set, sets}
 use Rattle.state.specs.declared.{Sense.Sense, DiscAt.DiscAt, ListAt.ListAt, Transfer.Transfer}
 use Rattle.packet.specs.declared.{Rule.Rule}
+use Rattle.ground.specs.Bytes.{byteAt}
 use Rattle.disc.specs.Formats.{formatOf, blockBytes, runBytes, placeOf}
 use Rattle.state.specs.Senses.{noSense, unknownCode, otherUnit, sameB}
 use Rattle.state.specs.declared.Transfer.the-variants.{Closed, Answer as AnswerFrom, Read, Write, ParameterList}
-use Rattle.state.specs.States.{hostOf, stateOf, powerOn, obeyedOf, movedOf}
+use Rattle.state.specs.States.{hostOf, stateOf, powerOn, obeyedOf}
 use Rattle.packet.specs.Fields.{addressOf}
 use Rattle.packet.specs.Rules.{codeOf}
 use Rattle.checks.specs.Verdicts.{otherUnitB}
 use Rattle.house.specs.World.{World, inState, inBuffer, inDisc, Reply, reply}
-use Rattle.lists.specs.Lists.{immediateB, badListB, meantOf, formatted, listJudged}
+use Rattle.lists.specs.Lists.{immediateB, badListB, meantOf, listJudged}
+use Rattle.feeds.specs.Feeding.{listEnds}
 use Rattle.drive.specs.Calls.{Call, Insert, Eject, Command, Feed, Pull, callOf}
 use Rattle.demands.specs.Device.{Device}
 use Rattle.demands.specs.Faithful.{Judges, Accounts, Announces}
@@ -86,7 +88,7 @@ byOpen reads writes lists other (ParameterList p) = lists p
 abbrev pub feedingWrites : (DiscAt → Calls) → Device
 feedingWrites f = feeding (λ w piece a. byOpen (λ p. a) (λ p. f p w piece a) (λ p. a) a (w .state .transfer))
 
--- it counts and goes on as ours, and stores nothing
+-- of a write it counts and goes on as ours, and stores nothing
 abbrev pub discardsFeeds : Device
 discardsFeeds = feedingWrites (λ p w piece a. leaving a (inState w (a .world .state)))
 
@@ -194,13 +196,13 @@ fillsZeros = feedingLists (λ p w a. cond (goodB p a) (leaving a (inDisc (a .wor
 abbrev pub formatsAll : Device
 formatsAll = feedingLists (λ p w a. cond (goodB p a) (leaving a (inDisc (a .world) (replicate (length (w .disc)) 0xf6))) a)
 
--- it formats although Immediate is set
+-- it judges a list as if Immediate were not set
 abbrev pub formatsImmediate : Device
 formatsImmediate =
     feedingLists (λ p w a.
-    let number = w .state .media .disc in
-    cond (eqb (a .heard .count) (p .left) && immediateB (a .world .buffer))
-    (leaving a (inDisc (inState (a .world) (movedOf (w .state) Closed)) (formatted number (meantOf (formatOf number) (p .track) (a .world .buffer)) (w .disc))))
+    let list = a .world .buffer in
+    cond (eqb (a .heard .count) (p .left) && immediateB list)
+    (leaving a (listEnds (inBuffer w list) (listJudged (w .state .media .disc) (p .track) (set list 1 (byteAt list 1 - 2)) (w .disc))))
     a)
 
 -- it judges at the eleventh byte: with one byte left the disc is formatted, if what the block buffer holds then is good

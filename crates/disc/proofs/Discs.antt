@@ -1,5 +1,5 @@
 -- What holds of every disc of the table: one test that antt computes over all of its rows. Assumes nothing.
-use Rattle.ground.specs.Kit.{_≡_, refl, ℕ, zero, suc, _+_, _*_, _≤_, _<_, add-mul, one-mul, mul-le-mul-right, arith, leb-true, ltb-true, eqb-true, eqb, leb, ltb}
+use Rattle.ground.specs.Kit.{_≡_, refl, ℕ, zero, suc, _+_, _*_, _≤_, add-mul, one-mul, mul-le-mul-right, arith, leb-true, ltb-true, eqb-true, eqb, leb, ltb}
 use Rattle.ground.proofs.Tables.{at-row, always}
 use Rattle.disc.specs.Formats.{noFormat, discs, formats, formatOf, heads, bufferBytes, blockBytes, runBytes, discBytes}
 use Rattle.disc.specs.Theorems.{DiscBytesColumn, Geometry, BlockFits, BlockHolds, TrackHolds, TrackWithin}

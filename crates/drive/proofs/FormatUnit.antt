@@ -1,5 +1,5 @@
 -- FORMAT UNIT passes with the packet of a track that is on the disc, and with no other. Assumes nothing.
-use Rattle.ground.specs.Kit.{_≡_, refl, sym, ap, _∙_, Bool, true, false, false≢true, not, _||_, List, ℕ, _/_, _%_, _<_, arith, bitAnd, and-mask, lit≤, lt-ltb, lt-leb, leb-false, eq-eqb, ne-eqb, eqb-true, eqb-false, not-false, eqb, leb, length}
+use Rattle.ground.specs.Kit.{_≡_, refl, sym, ap, _∙_, Bool, true, false, cond, false≢true, not, _||_, List, ℕ, _/_, _%_, _<_, arith, bitAnd, and-mask, lit≤, lt-ltb, lt-leb, leb-false, eq-eqb, ne-eqb, eqb-true, eqb-false, not-false, eqb, leb, length}
 use Rattle.state.specs.declared.{Media.Media, Host.Host}
 use Rattle.packet.specs.declared.{Rule.Rule}
 use Rattle.checks.specs.declared.{Verdict.Verdict}
@@ -9,7 +9,7 @@ use Rattle.disc.specs.Formats.{formatOf}
 use Rattle.disc.specs.Masks.{masks, maskRow}
 use Rattle.disc.proofs.Discs.{few-cylinders}
 use Rattle.state.specs.declared.Transfer.the-variants.{ParameterList as ListFor}
-use Rattle.state.specs.Senses.{noSense}
+use Rattle.state.specs.Senses.{noSense, badField, isProtected}
 use Rattle.state.specs.States.{hostOf, stateOf, listBytes, obeyedOf}
 use Rattle.packet.specs.Fields.{lengthOf}
 use Rattle.packet.specs.Rules.{askingOf, rules, codeOf, ruleOf}
@@ -17,15 +17,15 @@ use Rattle.packet.specs.declared.Values.the-variants.{FormatUnit}
 use Rattle.packet.specs.declared.Field.the-variants.{Bytes7To8}
 use Rattle.packet.specs.declared.Routine.the-variants.{ParameterList}
 use Rattle.packet.specs.declared.Known.the-variants.{Base}
-use Rattle.checks.specs.Verdicts.{bitsB, inMaskB, checksOf, verdict}
+use Rattle.checks.specs.Verdicts.{bitsB, inMaskB, badFormatB, checksOf, verdict}
 use Rattle.checks.specs.declared.Verdict.the-variants.{Passes, Fails}
 use Rattle.checks.proofs.Below.{below-at}
 use Rattle.checks.proofs.Passing.{Passed, passed}
 use Rattle.house.specs.World.{World, inState, Reply}
 use Rattle.house.proofs.Houses.{command-admits}
 use Rattle.commands.specs.Obeying.{performedOf, replyTo}
-use Rattle.drive.specs.Calls.{Command, houseOf, callOf}
-use Rattle.drive.specs.Formatting.{formatPacket, Formattable, FormatPasses, FormatOpens}
+use Rattle.drive.specs.Calls.{Command}
+use Rattle.drive.specs.Formatting.{formatPacket, Formattable, FormatPasses, FormatFails, FormatOpens}
 use Rattle.drive.proofs.Calling.{accepted, by-call}
 use Rattle.drive.proofs.TwelveBytes.{twelve}
 
@@ -55,58 +55,69 @@ module _ (w : World) (p : List ℕ) where
   abbrev track : ℕ
   track = byteAt p 2
 
-  -- what has passed
-  exact : codeOf p ≡ 0x04 → length p ≡ 12 → Passed m h p format → (p ≡ formatPacket track) × Formattable (w .state) track
+  -- a packet that passes B, E and F
+  exact : codeOf p ≡ 0x04 → length p ≡ 12 → byteAt p 1 / 32 ≡ 0 → inMaskB p 16 ≡ true → badFormatB (m .disc) p ≡ false
+      → (p ≡ formatPacket track) × (track < formatOf (m .disc) .cylinders)
   unfolding masks maskRow lengthOf
-  exact code long c =
+  exact code long unit mask value =
       let b : ℕ → ℕ = byteAt p in
       let kind = not (eqb (b 1 % 32) 0x17) in
       let list = not (eqb (word (b 7) (b 8)) listBytes) in
-      let (kl, on) = neither (kind || list) (leb (formatOf (m .disc) .cylinders) track) (c .value) in
+      let (kl, on) = neither (kind || list) (leb (formatOf (m .disc) .cylinders) track) value in
       let (k, l) = neither kind list kl in
-      let unit = eqb-true (b 1 / 32) 0 (not-false (eqb (b 1 / 32) 0) (c .unit)) in
       let low = eqb-true (b 1 % 32) 0x17 (not-false (eqb (b 1 % 32) 0x17) k) in
       let twelve-long = eqb-true (word (b 7) (b 8)) listBytes (not-false (eqb (word (b 7) (b 8)) listBytes) l) in
-      let none : (i : ℕ) → i < 12 → byteAt (maskRow 16) i ≡ 0 → b i ≡ 0 = masked p (c .mask) in (
+      let none : (i : ℕ) → i < 12 → byteAt (maskRow 16) i ≡ 0 → b i ≡ 0 = masked p mask in (
         twelve p (formatPacket track) long refl
-            (rw (
-              eq-eqb (b 0) 0x04 code,
-              eq-eqb (b 1) 0x17 (omega (arith, unit, low)),
-              eq-eqb track track refl,
-              eq-eqb (b 3) 0 (none 3 (lit≤ tt) refl),
-              eq-eqb (b 4) 0 (none 4 (lit≤ tt) refl),
-              eq-eqb (b 5) 0 (none 5 (lit≤ tt) refl),
-              eq-eqb (b 6) 0 (none 6 (lit≤ tt) refl),
-              eq-eqb (b 7) 0 (omega (arith, twelve-long)),
-              eq-eqb (b 8) 12 (omega (arith, twelve-long)),
-              eq-eqb (b 9) 0 (none 9 (lit≤ tt) refl),
-              eq-eqb (b 10) 0 (none 10 (lit≤ tt) refl),
-              eq-eqb (b 11) 0 (none 11 (lit≤ tt) refl),
-            )),
-        record {
-          power = c .power;
-          change = c .change;
-          is-in = eqb-false (m .disc) 0 (c .disc);
-          bare = c .unprotected;
-          on = leb-false (formatOf (m .disc) .cylinders) track on;
-        },
+            code
+            (omega (arith, unit, low))
+            refl
+            (none 3 (lit≤ tt) refl)
+            (none 4 (lit≤ tt) refl)
+            (none 5 (lit≤ tt) refl)
+            (none 6 (lit≤ tt) refl)
+            (omega (arith, twelve-long))
+            (omega (arith, twelve-long))
+            (none 9 (lit≤ tt) refl)
+            (none 10 (lit≤ tt) refl)
+            (none 11 (lit≤ tt) refl),
+        leb-false (formatOf (m .disc) .cylinders) track on,
       )
 
-  -- the packet of a track
-  track-passes : (t : ℕ) → Formattable (w .state) t → verdict m h (formatPacket t) ≡ Passes format
-  unfolding verdict rules ruleOf checksOf lengthOf inMaskB masks maskRow
-  track-passes t f =
-      rw (
-        f .power,
-        f .change,
-        ne-eqb (m .disc) 0 (f .is-in),
-        eq-eqb (bitAnd t 0xff) t (and-mask t 8 ∙ omega (arith, f .on, few-cylinders (m .disc))),
-        lt-leb (formatOf (m .disc) .cylinders) t (f .on),
-        f .bare,
-      )
+  -- what has passed
+  has-passed : codeOf p ≡ 0x04 → length p ≡ 12 → Passed m h p format → (p ≡ formatPacket track) × Formattable (w .state) track
+  has-passed code long c =
+      let unit = byteAt p 1 / 32 in
+      let (same, on) = exact code long (eqb-true unit 0 (not-false (eqb unit 0) (c .unit))) (c .mask) (c .value) in
+      (same, record { power = c .power; change = c .change; is-in = eqb-false (m .disc) 0 (c .disc); bare = c .unprotected; on = on })
+
+  -- nothing is pending, and a disc is in
+  module _ (power : h .power ≡ false) (change : h .change ≡ false) (is-in : m .disc ≡ 0 → ⊥) where
+    -- the packet of a track passes or fails by check H
+    by-protection : (t : ℕ) → t < formatOf (m .disc) .cylinders → verdict m h (formatPacket t) ≡ cond (m .protected) (Fails isProtected) (Passes format)
+    unfolding verdict rules ruleOf checksOf lengthOf inMaskB masks maskRow
+    by-protection t on =
+        rw (
+          power,
+          change,
+          ne-eqb (m .disc) 0 is-in,
+          eq-eqb (bitAnd t 0xff) t (and-mask t 8 ∙ omega (arith, on, few-cylinders (m .disc))),
+          lt-leb (formatOf (m .disc) .cylinders) t on,
+        )
+
+    -- any other fails at E or F
+    other-fails : codeOf p ≡ 0x04 → length p ≡ 12 → byteAt p 1 / 32 ≡ 0 → ((p ≡ formatPacket track) × (track < formatOf (m .disc) .cylinders) → ⊥)
+        → verdict m h p ≡ Fails badField
+    unfolding verdict checksOf
+    other-fails code long unit other = here (inMaskB p 16) refl (badFormatB (m .disc) p) refl
+      where
+        here : (b : Bool) → inMaskB p 16 ≡ b → (c : Bool) → badFormatB (m .disc) p ≡ c → verdict m h p ≡ Fails badField
+        here false q c f = rw (known p code, unit, power, change, ne-eqb (m .disc) 0 is-in, q)
+        here true q true f = rw (known p code, unit, power, change, ne-eqb (m .disc) 0 is-in, q, f)
+        here true q false f = absurd (other (exact code long unit q f))
 
   passes : p ≡ formatPacket track → Formattable (w .state) track → verdict m h p ≡ Passes format
-  passes e f = ap (verdict m h) e ∙ track-passes track f
+  passes e f = ap (verdict m h) e ∙ by-protection (f .power) (f .change) (f .is-in) track (f .on) ∙ rw (f .bare)
 
   -- one that passed has passed by that rule
   own-rule : codeOf p ≡ 0x04 → (rule : Rule) → verdict m h p ≡ Passes rule → Passed m h p format
@@ -123,7 +134,19 @@ format-passes w p code none =
     here : length p ≡ 12 → (v : Verdict) → verdict (w .state .media) (w .state .host) p ≡ v → replyTo v w p .heard .passed ≡ true
         → (p ≡ formatPacket (byteAt p 2)) × Formattable (w .state) (byteAt p 2)
     here long (Fails sense) q e = absurd (false≢true e)
-    here long (Passes rule) q e = exact w p code long (own-rule w p code rule q)
+    here long (Passes rule) q e = has-passed w p code long (own-rule w p code rule q)
+
+pub format-fails : FormatFails
+unfolding obeyedOf
+format-fails w p code none low power change is-in =
+    let long = command-admits w p .0 none .0 in
+    let unit : byteAt p 1 / 32 ≡ 0 = omega (arith, low) in (
+      λ other. rw (accepted w (Command p) none, other-fails w p power change is-in code long unit other) (refl, refl),
+      λ e on prot.
+          let at-h : verdict (w .state .media) (w .state .host) p ≡ Fails isProtected =
+          ap (verdict (w .state .media) (w .state .host)) e ∙ by-protection w p power change is-in (byteAt p 2) on ∙ rw prot in
+          rw (accepted w (Command p) none, at-h) (refl, refl),
+    )
 
 pub format-opens : FormatOpens
 unfolding performedOf obeyedOf

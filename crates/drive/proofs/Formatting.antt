@@ -1,5 +1,5 @@
 -- Which lists are good, which blocks they mean, and what a feed makes of an open list. Assumes nothing.
-use Rattle.ground.specs.Kit.{_≡_, refl, ap, _∙_, true, false, true≢false, not, _&&_, _||_, List, _∷_, _++_, ℕ, _+_, _-_, _*_, _/_, _%_, _<_, _≤_, min, arith, eqb, leb, ltb, eq-eqb, ne-eqb, eqb-true, eqb-false, not-false, le-leb, lt-ltb, lt-leb, ltb-true, zero-add, length, take}
+use Rattle.ground.specs.Kit.{_≡_, refl, ap, _∙_, true, false, true≢false, not, _||_, List, ℕ, _+_, _-_, _*_, _/_, _%_, _<_, min, arith, eqb, leb, ltb, eq-eqb, ne-eqb, eqb-true, eqb-false, not-false, le-leb, lt-ltb, ltb-true, zero-add, length, take}
 use Rattle.disc.specs.declared.{Format.Format}
 use Rattle.state.specs.declared.{ListAt.ListAt}
 use Rattle.ground.specs.Bytes.{byteAt, word, long as long4}
@@ -7,9 +7,9 @@ use Rattle.disc.specs.Formats.{formatOf}
 use Rattle.disc.proofs.Discs.{few-blocks, small-blocks, track-holds}
 use Rattle.ground.proofs.Truth.{both, neither}
 use Rattle.state.specs.States.{obeyedOf, movedOf}
-use Rattle.state.specs.declared.Transfer.the-variants.{Closed, ParameterList}
+use Rattle.state.specs.declared.Transfer.the-variants.{ParameterList}
 use Rattle.lists.specs.Lists.{immediateB, otherFormatB, badListB, meantOf, amongB}
-use Rattle.lists.proofs.Formatting.{by-meant, meant-within, among-side, formatted-block}
+use Rattle.lists.proofs.Formatting.{judged-by-twelve, meant-by-twelve, by-meant, meant-within, among-side, formatted-block}
 use Rattle.house.specs.World.{World, reply}
 use Rattle.house.specs.Theorems.{Ready}
 use Rattle.moves.proofs.Spans.{may-list}
@@ -60,20 +60,18 @@ module _ (number : ℕ) (list : List ℕ) (long : length list ≡ 12) (bytes : (
       let e₂ = eqb-true blocks (f .blocks) (not-false (eqb blocks (f .blocks)) n) in
       let e₃ = eqb-true size (f .size) (not-false (eqb size (f .size)) s) in (
         twelve list good long refl
-            (rw (
-              eq-eqb (b 0) (b 0) refl,
-              eq-eqb (b 1) (b 1) refl,
-              eq-eqb (b 2) 0 (omega (arith, e₁)),
-              eq-eqb (b 3) 8 (omega (arith, e₁)),
-              eq-eqb (b 4) (f .blocks / 16777216 % 256) (omega (arith, e₂, bytes 4, bytes 5, bytes 6, bytes 7)),
-              eq-eqb (b 5) (f .blocks / 65536 % 256) (omega (arith, e₂, bytes 4, bytes 5, bytes 6, bytes 7)),
-              eq-eqb (b 6) (f .blocks / 256 % 256) (omega (arith, e₂, bytes 4, bytes 5, bytes 6, bytes 7)),
-              eq-eqb (b 7) (f .blocks % 256) (omega (arith, e₂, bytes 4, bytes 5, bytes 6, bytes 7)),
-              eq-eqb (b 8) (b 8) refl,
-              eq-eqb (b 9) (f .size / 65536 % 256) (omega (arith, e₃, bytes 9, bytes 10, bytes 11)),
-              eq-eqb (b 10) (f .size / 256 % 256) (omega (arith, e₃, bytes 9, bytes 10, bytes 11)),
-              eq-eqb (b 11) (f .size % 256) (omega (arith, e₃, bytes 9, bytes 10, bytes 11)),
-            )),
+            refl
+            refl
+            (omega (arith, e₁))
+            (omega (arith, e₁))
+            (omega (arith, e₂, bytes 4, bytes 5, bytes 6, bytes 7))
+            (omega (arith, e₂, bytes 4, bytes 5, bytes 6, bytes 7))
+            (omega (arith, e₂, bytes 4, bytes 5, bytes 6, bytes 7))
+            (omega (arith, e₂, bytes 4, bytes 5, bytes 6, bytes 7))
+            refl
+            (omega (arith, e₃, bytes 9, bytes 10, bytes 11))
+            (omega (arith, e₃, bytes 9, bytes 10, bytes 11))
+            (omega (arith, e₃, bytes 9, bytes 10, bytes 11)),
         omega (arith, eqb-false (b 1 / 2 % 2) 1 i),
       )
 
@@ -100,6 +98,8 @@ module _ (w : World) (p : ListAt) (piece : List ℕ) (r : Ready w) (e : w .state
   fed =
       let n = min (length piece) (p .left) in
       let number = w .state .media .disc in
+      let f = formatOf number in
+      let gathered = listGathers p w (take n piece) .buffer in
       let o = may-list w r p e in
       by-list p n (listGathers p w (take n piece)) (λ v. FedList w p piece (reply 0 false n piece v))
       (λ part.
@@ -107,32 +107,26 @@ module _ (w : World) (p : ListAt) (piece : List ℕ) (r : Ready w) (e : w .state
       record {
         count = refl;
         buffer = refl;
-        sense = rw not-whole;
-        transfer = rw (not-whole, ne-eqb (p .left - n) 0 (λ z. part (omega (arith, z))));
+        state = rw (not-whole, ne-eqb (p .left - n) 0 (λ z. part (omega (arith, z))));
         blocks = λ k. rw not-whole;
         unchanged = λ _. refl;
       })
       (λ whole bad.
       let is-whole = eq-eqb n (p .left) whole in
-      record {
-        count = refl;
-        buffer = refl;
-        sense = rw (is-whole, bad);
-        transfer = rw is-whole;
-        blocks = λ k. rw (is-whole, bad);
-        unchanged = λ _. refl;
-      })
+      let judged = judged-by-twelve f gathered ∙ bad in
+      record { count = refl; buffer = refl; state = rw (is-whole, judged); blocks = λ k. rw (is-whole, judged); unchanged = λ _. refl })
       (λ whole good.
       let is-whole = eq-eqb n (p .left) whole in
-      let list = listGathers p w (take n piece) .buffer in
-      let meant = meantOf (formatOf number) (p .track) list in
+      let judged = judged-by-twelve f gathered ∙ good in
+      let meant = meantOf f (p .track) gathered in
       record {
         count = refl;
         buffer = refl;
-        sense = rw (is-whole, good);
-        transfer = rw is-whole;
-        blocks = λ k. rw (is-whole, good) (formatted-block number meant (w .disc) k (r .disc) (meant-within number (p .track) list (o .track)));
-        unchanged = λ no. absurd (true≢false (rw (is-whole, good) at no));
+        state = rw (is-whole, judged);
+        blocks = λ k.
+            rw (is-whole, judged, meant-by-twelve f gathered (p .track))
+            (formatted-block number meant (w .disc) k (r .disc) (meant-within number (p .track) gathered (o .track)));
+        unchanged = λ no. absurd (true≢false (rw (is-whole, judged) at no));
       })
 
 pub fed-lists : FedLists

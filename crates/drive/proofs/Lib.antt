@@ -3,6 +3,7 @@ pub mod Commanded
 pub mod Staying
 pub mod OneReply
 pub mod Whole
+pub mod Protected
 pub mod Pending
 pub mod Units
 pub mod Cases

@@ -1,7 +1,7 @@
 -- Req 03, FORMAT UNIT: what holds of the command, of its list and of the disc; proved in proofs/FormatUnit and proofs/Formatting.
 use Rattle.ground.specs.Kit.{_≡_, Bool, true, false, cond, not, _&&_, List, _∷_, _++_, ℕ, _+_, _*_, _-_, _/_, _%_, _<_, _≤_, min, eqb, length, take, replicate, sets}
 use Rattle.disc.specs.declared.{BlockAddress.BlockAddress}
-use Rattle.state.specs.declared.{State.State, ListAt.ListAt, Transfer.Transfer}
+use Rattle.state.specs.declared.{State.State, ListAt.ListAt}
 use Rattle.ground.specs.Bytes.{byteAt, be2, be3, be4}
 use Rattle.disc.specs.Formats.{formatOf, blockBytes}
 use Rattle.state.specs.declared.Transfer.the-variants.{Closed, ParameterList}
@@ -37,6 +37,19 @@ FormatPasses =
     → let passed = callOf w (Command p) .heard .passed in
     let track = byteAt p 2 in
     (passed ≡ true → (p ≡ formatPacket track) × Formattable (w .state) track) × (p ≡ formatPacket track → Formattable (w .state) track → passed ≡ true)
+
+-- to unit 0, with no attention pending and a disc in, any other packet of code 04 fails at E or F, with or without protection; this one fails
+-- at H, where the disc is protected
+abbrev pub FormatFails : Type 0
+FormatFails =
+    (w : World) (p : List ℕ) → codeOf p ≡ 0x04 → houseOf w (Command p) ≡ 0 → byteAt p 1 < 32
+    → let s = w .state in
+    let track = byteAt p 2 in
+    let on = track < formatOf (s .media .disc) .cylinders in
+    let h = callOf w (Command p) .heard in
+    s .host .power ≡ false → s .host .change ≡ false → (s .media .disc ≡ 0 → ⊥)
+    → (((p ≡ formatPacket track) × on → ⊥) → (h .passed ≡ false) × (h .sense ≡ triple 0x05 0x24 0x00))
+    × (p ≡ formatPacket track → on → s .media .protected ≡ true → (h .passed ≡ false) × (h .sense ≡ triple 0x07 0x27 0x00))
 
 -- it leaves all as it was, but for the sense, and for a list that is open: 12 bytes are left, and the track is remembered
 abbrev pub FormatOpens : Type 0
@@ -84,33 +97,37 @@ MeantBlocks =
 -- ---- what a feed makes of an open list
 
 -- the world before, the list that is open, the piece and the reply
-pub record FedList (w : World) (p : ListAt) (piece : List ℕ) (a : Reply) : Type 0 where
-  -- "fed like a write, gathered in the block buffer's first 12 bytes": the rest of the block buffer is untouched, and of the piece the caller's
-  pub count : a .heard .count ≡ min (length piece) (p .left)
-  pub buffer : a .world .buffer ≡ sets (w .buffer) (12 - p .left) (take (a .heard .count) piece)
-  -- "judged when its twelfth byte is taken": with a bad list 05 26 00, else the sense stays as it was
-  pub sense :
-      let whole = eqb (a .heard .count) (p .left) in
-      let bad = badListB (formatOf (w .state .media .disc)) (a .world .buffer) in
-      a .world .state .host .sense ≡ cond (whole && bad) (triple 0x05 0x26 0x00) (w .state .host .sense)
-  -- "Refused or not, the list closes the transfer"
-  pub transfer :
-      let whole = eqb (a .heard .count) (p .left) in
-      a .world .state .transfer ≡ cond whole Closed (ParameterList (record { track = p .track; left = p .left - a .heard .count }))
-  -- ".. is filled with F6 in that same call": block by block
-  pub blocks :
-      (k : BlockAddress)
-      → let number = w .state .media .disc in
-      let f = formatOf number in
-      let whole = eqb (a .heard .count) (p .left) in
-      let good = not (badListB f (a .world .buffer)) in
-      let meant = amongB (meantOf f (p .track) (a .world .buffer)) k in
-      blockOf number (a .world .disc) k ≡ cond (whole && good && meant) (replicate (blockBytes number) 0xf6) (blockOf number (w .disc) k)
-  -- "changes no disc byte", nor does a list before its twelfth byte
-  pub unchanged :
-      let whole = eqb (a .heard .count) (p .left) in
-      let good = not (badListB (formatOf (w .state .media .disc)) (a .world .buffer)) in
-      (whole && good) ≡ false → a .world .disc ≡ w .disc
+module _ (w : World) (p : ListAt) (piece : List ℕ) (a : Reply) where
+  abbrev number : ℕ
+  number = w .state .media .disc
+
+  -- "judged when its twelfth byte is taken", by the first 12 bytes that the block buffer then holds
+  abbrev wholeB : Bool
+  wholeB = eqb (a .heard .count) (p .left)
+
+  abbrev list : List ℕ
+  list = take 12 (a .world .buffer)
+
+  abbrev badB : Bool
+  badB = badListB (formatOf number) list
+
+  pub record FedList : Type 0 where
+    -- "fed like a write, gathered in the block buffer's first 12 bytes": the rest of the block buffer is untouched, and of the piece the caller's
+    pub count : a .heard .count ≡ min (length piece) (p .left)
+    pub buffer : a .world .buffer ≡ sets (w .buffer) (12 - p .left) (take (a .heard .count) piece)
+    -- with a bad list 05 26 00, else the sense stays as it was; "Refused or not, the list closes the transfer"; all else stays
+    pub state :
+        let s = w .state in
+        let sense = cond (wholeB && badB) (triple 0x05 0x26 0x00) (s .host .sense) in
+        let rest = ParameterList (record { track = p .track; left = p .left - a .heard .count }) in
+        a .world .state ≡ stateOf (s .media) (s .motor) (hostOf (s .host .power) (s .host .change) sense) (cond wholeB Closed rest)
+    -- ".. is filled with F6 in that same call": block by block
+    pub blocks :
+        (k : BlockAddress)
+        → let meant = amongB (meantOf (formatOf number) (p .track) list) k in
+        blockOf number (a .world .disc) k ≡ cond (wholeB && not badB && meant) (replicate (blockBytes number) 0xf6) (blockOf number (w .disc) k)
+    -- "changes no disc byte", nor does a list before its twelfth byte
+    pub unchanged : (wholeB && not badB) ≡ false → a .world .disc ≡ w .disc
 
 abbrev pub FedLists : Type 0
 FedLists = (w : World) (p : ListAt) (piece : List ℕ) → Ready w → w .state .transfer ≡ ParameterList p → FedList w p piece (feedOf w piece)

@@ -1,4 +1,4 @@
--- What holds of the entries; proved in proofs/Staying, OneReply, Whole, Commanded, Pending and Units. What holds of every call is stated of any
+-- What holds of the entries; proved in proofs/Staying, OneReply, Whole, Protected, Commanded, Pending and Units. What holds of every call is stated of any
 -- device, in `demands` specs/Answered.
 use Rattle.ground.specs.Kit.{_≡_, Bool, true, false, cond, not, _&&_, _||_, List, [], _∷_, _++_, ℕ, suc, _+_, _*_, _-_, _%_, _<_, _≤_, eqb, leb, ltb, length, take, drop, replicate, set}
 use Rattle.disc.specs.declared.{BlockAddress.BlockAddress, BytePlace.BytePlace}
@@ -98,6 +98,15 @@ FedAllOldOrAllNew =
     blockOf number (fed .world .disc) k
     ≡ cond (completesB number (p .at) count k) (gatheredOf number (writing (p .at) (w .buffer) (w .disc)) (take count piece) k)
     (blockOf number (w .disc) k)
+
+-- ---- "protection": while a protected disc is in, no command, feed or pull changes a byte of it
+
+abbrev pub ProtectedStays : Type 0
+ProtectedStays =
+    (w : World) → soundB (w .state) ≡ true → w .state .media .protected ≡ true
+    → ((p : List ℕ) → callOf w (Command p) .world .disc ≡ w .disc)
+    × ((piece : List ℕ) → callOf w (Feed piece) .world .disc ≡ w .disc)
+    × ((out : List ℕ) → callOf w (Pull out) .world .disc ≡ w .disc)
 
 -- ---- an accepted command has passed where it left the triple 00 00 00, and nowhere else
 

@@ -1,5 +1,5 @@
 -- The differing blocks and their lines, one block after the other. Assumes nothing.
-use Rattle.ground.specs.Kit.{_≡_, refl, sym, ap, _∙_, Bool, true, false, cond, _||_, List, [], _∷_, _++_, append-assoc, append-nil, map, map-append, flatten, ℕ, _+_, _-_, _*_, _/_, _^_, _<_, _≤_, min, arith, one-mul, div-add-mod', mul-le-mul-right, ne-eqb, ltb-true, eqb, leb, ltb, length, take, drop, length-append, length-map, length-take, length-drop}
+use Rattle.ground.specs.Kit.{_≡_, refl, ap, _∙_, Bool, true, false, cond, _||_, List, [], _∷_, _++_, append-nil, map, map-append, flatten, ℕ, _+_, _-_, _*_, _/_, _^_, _<_, _≤_, min, arith, one-mul, div-add-mod', mul-le-mul-right, ne-eqb, ltb-true, eqb, leb, ltb, length, take, drop, length-append, length-map, length-take, length-drop}
 use Rattle.listing.specs.declared.{Difference.Difference, Comparison.Comparison}
 use Rattle.disc.specs.declared.{Format.Format, BlockAddress.BlockAddress}
 use Rattle.disc.specs.Formats.{noFormat, formats, formatOf, bufferBytes, blockBytes, runBytes}

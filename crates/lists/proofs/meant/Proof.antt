@@ -1,11 +1,14 @@
-use Rattle.ground.specs.Kit.{_≤_, _+_, _*_, _%_, mod-lt, mul-le-mul, arith, needs, eq-eqb, ne-eqb, lit≤}
+use Rattle.ground.specs.Kit.{_≡_, true, false, _≤_, _+_, _*_, _/_, _%_, eqb, mul-le-mul, arith, needs, eq-eqb, ne-eqb}
 use Rattle.lists.specs.Lists.{meantOf}
 use Rattle.lists.proofs.meant.Statement.{statement}
 use Rattle.lists.proofs.meant.Tie as tie
 
 returns : tie.Need-returns
 unfolding meantOf
-returns c = rw (← c .before .byte .ensures, ne-eqb _ _ (c .if1 .taken))
+returns c =
+    let flags = c .before .byte .result in
+    let whole : eqb (flags / 16 % 2) 1 ≡ false = ne-eqb (flags / 16 % 2) 1 (c .if1 .taken) in
+    rw (← c .before .byte .ensures, whole)
 
 mul-t11 : tie.Need-mul-t11
 mul-t11 c =
@@ -17,7 +20,10 @@ mul-t11 c =
 
 returns-2 : tie.Need-returns-2
 unfolding meantOf
-returns-2 c = rw (← c .before .before .byte .ensures, eq-eqb _ _ (c .before .if1 .left))
+returns-2 c =
+    let flags = c .before .before .byte .result in
+    let single : eqb (flags / 16 % 2) 1 ≡ true = eq-eqb (flags / 16 % 2) 1 (c .before .if1 .left) in
+    rw (← c .before .before .byte .ensures, single)
 
 pub meant-spec : {M : Type 1} → statement M
 meant-spec =
