@@ -18,7 +18,7 @@ use Rattle.demands.specs.Device.{Device}
 use Rattle.demands.specs.Ledger.{blocksOn}
 use Rattle.demands.specs.Faithful.{Faithful}
 
--- ---- "data lent whole or cut anywhere, with no other call between"
+-- ---- "data lent whole or cut anywhere, with no other call between"; Req 03: "Demand 3's cutting of data covers the list too."
 
 -- the counts in sum, the pieces or buffers afterwards one after the other, and the world
 pub record Lent : Type 0 where
