@@ -126,12 +126,12 @@ gather size s (x ∷ xs) = gather size (gatherByte size s x) xs
 abbrev pub hearing : Host → Sense → Host
 hearing h sense = hostOf (not (sameB sense (triple 0x06 0x29 0x00)) && h .power) (not (sameB sense (triple 0x06 0x28 0x00)) && h .change) sense
 
--- "or formatted": a list is good, or it gives 05 26 00; block k is F6 throughout if it is meant, else as it was. "every block, or with Single
--- Track the blocks of that track and side": the ledger's own rule, by the track and the side of a block
+-- "every block, or with Single Track the blocks of that track and side": the ledger's own rule, by the track and the side of block k
 abbrev pub meantB : ℕ → ℕ → List ℕ → ℕ → Bool
 meantB number track got k =
     not (eqb (byteAt got 1 / 16 % 2) 1) || eqb (k / formatOf number .sectors) (track * 2 + byteAt got 1 % 2)
 
+-- "is filled with F6": of the blocks from k on each that is meant, and the others stay as they were
 abbrev pub reformat : ℕ → (ℕ → Bool) → ℕ → List (List ℕ) → List (List ℕ)
 reformat size meant k [] = []
 reformat size meant k (b ∷ bs) = cond (meant k) (replicate size 0xf6) b ∷ reformat size meant (suc k) bs
@@ -139,6 +139,7 @@ reformat size meant k (b ∷ bs) = cond (meant k) (replicate size 0xf6) b ∷ re
 abbrev pub reformatted : ℕ → ℕ → List ℕ → List (List ℕ) → List (List ℕ)
 reformatted number track got blocks = reformat (blockBytes number) (meantB number track got) 0 blocks
 
+-- "or formatted": what comes of a whole list, which gives 05 26 00 if it is bad
 abbrev pub judgesList : Ledger → ℕ → List ℕ → Ledger
 judgesList l track got =
     let number = l .media .disc in
