@@ -7,17 +7,15 @@ ghost use Rattle.moves.specs.Places.{Block, Place, WriteSpan, restOf};
 ghost use Rattle.moves.specs.Replies.{onward};
 ghost use Rattle.feeds.specs.Feeding.{writing, feedBytes};
 
-// Copies a complete block from the block buffer to the disc, where its first byte stands. It asks the format at every byte.
+// Copies a complete block from the block buffer to the disc, where its first byte stands: at a stroke, its length taken once.
 fn store_block(buffer: &[u8], first: BytePlace, number: u8, disc: &mut [u8])
     requires { ⌜ Block number first (now buffer) (now disc) ⌝ }
     ensures { λ _. ⌜ now (disc .exit) ≡ paste (now (disc .entry)) (first .0) (now (buffer .entry)) (blockBytes number) ⌝ }
 {
+    let size = disc::block_bytes(number);
     let at = first.0;
-    let mut i = 0;
-    while i < disc::block_bytes(number) {
-        disc[at + i] = buffer[i];
-        i += 1;
-    }
+    let end = at + size;
+    ground::fill(&buffer[..size], &mut disc[at..end]);
 }
 
 // Takes the first min(piece, rest of the block) bytes; a block that they complete goes to the disc.

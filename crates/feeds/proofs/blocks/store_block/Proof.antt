@@ -1,49 +1,42 @@
--- The loop's invariant: the disc has the first i bytes of the buffer at the place.
-use Rattle.ground.specs.Kit.{_≡_, refl, _≤_, _-_, add-one, arith, length, paste, paste-zero, paste-suc, needs}
-use Rattle.disc.specs.Formats.{blockBytes}
+-- The copy fills the block's place on the disc from end to end.
+use Rattle.ground.specs.Kit.{_≡_, sym, _+_, _-_, le-refl, arith, length, take, length-take-le, take-take, sets-eq, needs}
+use Rattle.feeds.proofs.Sharing.{copied}
 use Rattle.feeds.proofs.blocks.store_block.Statement.{statement}
 use Rattle.feeds.proofs.blocks.store_block.Tie as tie
 
-abbrev Inv-loop : tie.InvT-loop
-Inv-loop buffer number disc₀ at i₀ disc i = (i ≤ blockBytes number) × (disc ≡ paste disc₀ at buffer i) × (length disc ≡ length disc₀)
+-- the part of the buffer is a whole block
+whole : (c : tie.After-block-bytes) → length (take (c .block-bytes .result) (c .before .before .before .args .buffer .now)) ≡ c .block-bytes .result
+whole c = length-take-le _ _ (omega arith)
 
-abbrev μ-loop : tie.MeasureT-loop
-μ-loop buffer number disc₀ at i₀ disc i = blockBytes number - i
-
-loop-holds : tie.Need-loop-holds Inv-loop μ-loop
-loop-holds c =
-    let x = c .before .before .args in
-    (search needs, paste-zero (x .disc .now) (x .first .0) (x .buffer .now), refl)
-
-loop-again : tie.Need-loop-again Inv-loop μ-loop
-loop-again c =
-    let loop = c .before .before .before .loop in
-    let x = c .before .before .before .before .before .before .args in (
-      search needs,
-      rw (loop .inv .1, add-one)
-          (paste-suc (x .disc .now) (x .first .0) (x .buffer .now) (loop .i) 0 (omega arith) (omega arith)),
-      search needs,
-    )
-
-returns : tie.Need-returns Inv-loop μ-loop
+returns : tie.Need-returns
 returns c =
-    let loop = c .before .before .loop in
-    let e : loop .i ≡ blockBytes (c .before .before .before .before .before .args .number) = omega arith in
-    rw e at (loop .inv .1)
+    let call = c .before .before in
+    let looked = call .before .before .before in
+    let x = looked .before .before .before .args in
+    let b = looked .block-bytes .result in
+    let at = x .first .0 in
+    let l = whole looked in
+    let done = copied at (at + b - at) (take b (x .buffer .now)) (x .disc .now) (omega arith) (call .fill .result) (call .fill .last .1 .0) (call .fill .ensures) in
+    let n : call .fill .result ≡ b = omega (arith, l, done .share) in
+    rw (
+      ← looked .block-bytes .ensures,
+      done .bytes,
+      n,
+      take-take b b (x .buffer .now) (le-refl b),
+      sets-eq (take b (x .buffer .now)) (x .disc .now) at (omega arith),
+      l,
+    )
 
 pub store-block-spec : {M : Type 1} → statement M
 store-block-spec =
     tie.close
     (tie.spec
-    Inv-loop
-    μ-loop
-    loop-holds
     (λ _ _. tt)
     (λ c. search needs)
+    (λ c. sym (whole (c .before)))
     (λ c. search needs)
     (λ c. search needs)
     (λ c. search needs)
-    (λ c. search needs)
-    loop-again
+    (λ _ _. tt)
     (λ c. search needs)
     returns)
