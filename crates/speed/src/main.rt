@@ -200,8 +200,9 @@ fn run(work: Work, count: u64, piece: &mut [u8], buffer: &mut [u8], disc: &mut [
     }
 }
 
-// Pieces of so many bytes, or of all there are.
+// Pieces of so many bytes, or of all there are. They begin with the first argument, so that no compiler knows what is moved.
 fn lend(work: Work, count: u64, length: u64, piece: &mut [u8], buffer: &mut [u8], disc: &mut [u8]) {
+    shell::given(1, piece);
     let n = ground::least(length as usize, piece.len());
     run(work, count, &mut piece[..n], buffer, disc);
 }
@@ -226,7 +227,7 @@ fn main() {
         usage();
         return;
     }
-    let mut piece = [0xa5u8; PIECE_BYTES];
+    let mut piece = [0u8; PIECE_BYTES];
     let mut buffer = [0u8; disc::BUFFER_BYTES];
     let mut disc = [0u8; DISC_BYTES];
     start(work, count, length, &mut piece, &mut buffer, &mut disc);

@@ -7,6 +7,7 @@ lend-spec =
     tie.close
     (tie.spec
     (λ _ _. tt)
+    (λ _ _. tt)
     (λ c. search needs)
     (λ c. sym (length-take-le _ _ (search needs)))
     (λ _ _. tt)
