@@ -1,4 +1,4 @@
-// Feeds or pulls all of disc 3, or has the kit copy as many bytes, in so many calls of so many bytes: what bin/measure counts and times.
+// Feeds or pulls disc 3, or has the kit copy as many bytes, in so many calls of so many bytes: what bin/measure counts and times.
 use moves::MoveReply;
 use shell::Argument;
 use state::State;
@@ -39,7 +39,7 @@ enum Work {
     Unknown,
 }
 
-// What a word of the arguments says.
+// What a word of the arguments says, as work and as a number.
 struct Word {
     work: Work,
     number: u64,
@@ -68,6 +68,7 @@ fn opened(code: u8, state: State, buffer: &mut [u8], disc: &[u8]) -> State {
     }
 }
 
+// A feed, else a pull.
 fn call(
     work: Work,
     state: State,
@@ -193,7 +194,7 @@ fn run(work: Work, count: u64, piece: &mut [u8], buffer: &mut [u8], disc: &mut [
             say(total, piece, disc);
         }
         Work::Unknown => usage(),
-        _ => {
+        Work::Feed | Work::Pull => {
             let total = calls(work, count, piece, buffer, disc);
             say(total, piece, disc);
         }

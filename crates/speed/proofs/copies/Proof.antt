@@ -1,4 +1,4 @@
-use Rattle.ground.specs.Kit.{_≡_, sym, _≤_, arith, length, length-take-le, needs}
+use Rattle.ground.specs.Kit.{_≡_, sym, arith, length, length-take-le, needs}
 use Rattle.speed.proofs.copies.Statement.{statement}
 use Rattle.speed.proofs.copies.Tie as tie
 
