@@ -17,6 +17,7 @@ ALIASES = {
 }
 SPLIT = r"([\s(){}\[\],;.λ`\"|&!?*]+)"
 DEFINED = re.compile(r"^(?:  )?(?:(?:abbrev|unfoldable|pub|private|opaque)\s+)*([^\s:(){}]+)\s*:(?!=)\s*(.*)")
+INNER = re.compile(r"^ {4,}(?:(?:abbrev|unfoldable)\s+)*pub\s+([^\s:(){}]+)\s*:(?!=)\s*(.*)")  # in a module with parameters
 
 
 def snake(name):
@@ -37,11 +38,11 @@ def own_names(top):
     for path in files(os.path.join(top, "crates"), (".antt",)):
         with open(path, encoding="utf-8") as f:
             for line in f:
-                m = DEFINED.match(line.rstrip("\n"))
+                m = DEFINED.match(line.rstrip("\n")) or INNER.match(line.rstrip("\n"))
                 if not m or line.lstrip().startswith("--"):
                     continue
                 name, sort = m.groups()
-                if sort.startswith("tie.") or name.startswith(("decreases-", "invariant-")):
+                if sort.startswith(("tie.", "goal.")) or name.startswith(("decreases-", "invariant-")):
                     continue  # a name that Rattle makes
                 if re.match(r"^[a-z]", name) and (re.search(r"[A-Z]", name) or "-" in name):
                     found[name] = snake(name)
@@ -50,7 +51,8 @@ def own_names(top):
     for old, new in found.items():
         if "-" in old and new in defined:
             found[old] = new + "_lem"  # a lemma that would have its definition's name
-    found["in_buffer"] = "in_buffer_lem"  # `in-buffer` where port.py has been, beside the definition `inBuffer`
+    if "inBuffer" in found:
+        found["in_buffer"] = "in_buffer_lem"  # `in-buffer` where port.py has been, beside the definition `inBuffer`
     return found
 
 

@@ -1,5 +1,6 @@
 -- What giving an answer leaves: a buffer as long as it was, and one answer. Assumes nothing.
-use Rattle.ground.specs.Kit.{◌≡◌, sym, ◌∙◌, ap, List, ℕ, ◌≤◌, arith, length, length-append, length-take, length-drop}
+use Rattle.std.specs.Prelude.{◌≡◌, ◌≤◌}
+use Rattle.ground.specs.Kit.{sym, ◌∙◌, ap, List, ℕ, arith, length, length-append, length-take, length-drop}
 use Rattle.state.specs.declared.{Media.Media, Sense.Sense}
 use Rattle.packet.specs.declared.{Answering.Answering}
 use Rattle.ground.specs.Filling.{Filled}

@@ -1,5 +1,6 @@
 -- Paper 01, "Answers from the block buffer": the five answers, whole.
-use Rattle.ground.specs.Kit.{Bool, cond, List, ◌∷◌, ◌++◌, ℕ, ◌-◌, eqb, set}
+use Rattle.std.specs.Prelude.{◌∷◌, ◌++◌, ◌-◌}
+use Rattle.ground.specs.Kit.{Bool, cond, List, ℕ, eqb, set}
 use Rattle.disc.specs.Formats.{format_of, heads}
 use Rattle.state.specs.declared.Sense as sense
 use Rattle.ground.specs.Bytes.{zeros, be2, be3, be4, text}

@@ -1,5 +1,6 @@
 -- Paper 01, "Answers from the block buffer": how an answer gets there.
-use Rattle.ground.specs.Kit.{List, ℕ, ◌/◌, min, eqb, length}
+use Rattle.std.specs.Prelude.{◌/◌}
+use Rattle.ground.specs.Kit.{List, ℕ, min, eqb, length}
 use Rattle.state.specs.declared.{Media.Media}
 use Rattle.packet.specs.declared.{Answering.Answering}
 use Rattle.ground.specs.Bytes.{byte_at}

@@ -1,5 +1,6 @@
 -- What holds of giving an answer; proved in proofs/Given.
-use Rattle.ground.specs.Kit.{◌≡◌, List, ℕ}
+use Rattle.std.specs.Prelude.{◌≡◌}
+use Rattle.ground.specs.Kit.{List, ℕ}
 use Rattle.ground.specs.Filling.{Filled, filled}
 
 -- "two answers allowed by the promise are equal": the count and the buffer

@@ -1,5 +1,8 @@
 // The five answers as bytes, and how one is put at the start of the block buffer.
-ghost use Rattle.ground.specs.Kit.{◌≡◌, ◌-◌, cond};
+#![tactic(auto)]
+
+ghost use Rattle.std.specs.Prelude.{◌≡◌, ◌-◌};
+ghost use Rattle.ground.specs.Kit.{cond};
 ghost use Rattle.answer.specs.Answers.{sense_data, inquiry_to, capacity_data, with_disc_data, without_disc_data, mode_data, capacities_data};
 ghost use Rattle.ground.specs.Filling.{filled};
 ghost use Rattle.answer.specs.Giving.{put_of, give_of};

@@ -1,5 +1,6 @@
 -- What a test of all numbers below a limit says of one number more, of one that fails, and of each. Assumes nothing.
-use Rattle.ground.specs.Kit.{◌≡◌, refl, sym, ◌∙◌, Bool, true, false, false≢true, and-false, ⊎_elim, ℕ, zero, suc, ◌+◌, ◌<◌, ltb, ltb-true, not-suc-le-zero, eq-or-lt_of_le, le_of_suc-le-suc, add-one}
+use Rattle.std.specs.Prelude.{◌≡◌, ◌+◌, ◌<◌}
+use Rattle.ground.specs.Kit.{refl, sym, ◌∙◌, Bool, true, false, false≢true, and-false, ⊎_elim, ℕ, zero, suc, ltb, ltb-true, not-suc-le-zero, eq-or-lt_of_le, le_of_suc-le-suc, add-one}
 use Rattle.checks.specs.Verdicts.{below_b}
 
 module _ (f : ℕ → Bool) where

@@ -1,5 +1,6 @@
 -- What a verdict says: a command that passes has a rule and passed each of its checks, one that fails gives a named triple. Assumes nothing.
-use Rattle.ground.specs.Kit.{◌≡◌, refl, ap, Bool, true, false, false≢true, not, ◌&&◌, ◌||◌, List, ℕ, ◌+◌, ◌%◌, ◌≤◌, ◌<◌, arith, not-false, eqb-false, leb-false, ltb-false, eqb, leb, ltb}
+use Rattle.std.specs.Prelude.{◌≡◌, ◌&&◌, ◌||◌, ◌+◌, ◌%◌, ◌≤◌, ◌<◌}
+use Rattle.ground.specs.Kit.{refl, ap, Bool, true, false, false≢true, not, List, ℕ, arith, not-false, eqb-false, leb-false, ltb-false, eqb, leb, ltb}
 use Rattle.state.specs.declared.{Sense.Sense, Media.Media, Host.Host}
 use Rattle.packet.specs.declared.{Values.Values, Rule.Rule, Known.Known}
 use Rattle.checks.specs.declared.{Verdict.Verdict}

@@ -1,5 +1,6 @@
 -- Paper 01, "A command": "the first check to fail gives the sense".
-use Rattle.ground.specs.Kit.{Bool, true, false, not, ◌&&◌, ◌||◌, List, [], ◌∷◌, ℕ, zero, suc, ◌+◌, ◌/◌, ◌%◌, bit_and, eqb, leb, ltb}
+use Rattle.std.specs.Prelude.{◌&&◌, ◌||◌, ◌∷◌, ◌+◌, ◌/◌, ◌%◌}
+use Rattle.ground.specs.Kit.{Bool, true, false, not, List, [], ℕ, zero, suc, bit_and, eqb, leb, ltb}
 use Rattle.disc.specs.declared.{BlockAddress.BlockAddress}
 use Rattle.state.specs.declared.{Sense.Sense, Media.Media, Host.Host}
 use Rattle.packet.specs.declared.{Values.Values, Rule.Rule, Known.Known}

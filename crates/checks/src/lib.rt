@@ -1,5 +1,7 @@
 // Whether a packet may pass: the checks A to H.
-ghost use Rattle.ground.specs.Kit.{◌≡◌};
+#![tactic(auto)]
+
+ghost use Rattle.std.specs.Prelude.{◌≡◌};
 ghost use Rattle.checks.specs.Verdicts.{other_unit_b, in_mask_b, bad_format_b, bad_value_b, bad_control_b, past_end_b, first_of, checks_of, verdict};
 
 use disc::BlockAddress;
@@ -7,14 +9,14 @@ use ground::byte;
 use packet::{Field, Known, Rule, Values};
 use state::{Host, Media, Sense};
 
-#[derive(Drop)]
+#[derive(Clone, Copy)]
 pub enum Verdict {
     Passes(Rule),
     Fails(Sense),
 }
 
 // Whether a check fails, and the triple that it then gives.
-#[derive(Drop)]
+#[derive(Clone, Copy)]
 pub struct Check(pub bool, pub Sense);
 
 // B fails: the unit number is not 0.

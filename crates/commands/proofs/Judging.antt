@@ -1,5 +1,6 @@
 -- Past the house tests the verdict decides. Assumes nothing.
-use Rattle.ground.specs.Kit.{◌≡◌, List, ℕ, length}
+use Rattle.std.specs.Prelude.{◌≡◌}
+use Rattle.ground.specs.Kit.{List, ℕ, length}
 use Rattle.checks.specs.Verdicts.{verdict}
 use Rattle.house.specs.World.{World}
 use Rattle.house.specs.Theorems.{Ready}

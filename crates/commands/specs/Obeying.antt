@@ -1,5 +1,6 @@
 -- Paper 01, "A command": what a packet makes of the state and of what was lent.
-use Rattle.ground.specs.Kit.{Bool, true, false, List, [], ℕ, ◌%◌, eqb}
+use Rattle.std.specs.Prelude.{◌%◌}
+use Rattle.ground.specs.Kit.{Bool, true, false, List, [], ℕ, eqb}
 use Rattle.disc.specs.declared.{BlockAddress.BlockAddress}
 use Rattle.state.specs.declared.{DiscAt.DiscAt, Transfer.Transfer}
 use Rattle.packet.specs.declared.{Rule.Rule, Routine.Routine}

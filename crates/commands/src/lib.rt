@@ -1,5 +1,8 @@
 // The events and the commands, each with its house refusals.
-ghost use Rattle.ground.specs.Kit.{◌≡◌, length};
+#![tactic(auto)]
+
+ghost use Rattle.std.specs.Prelude.{◌≡◌};
+ghost use Rattle.ground.specs.Kit.{length};
 ghost use Rattle.state.specs.Senses.{no_sense};
 ghost use Rattle.state.specs.States.{power_on, obeyed_of};
 ghost use Rattle.house.specs.World.{World, in_state, in_buffer, in_lent};
@@ -13,13 +16,13 @@ use house::House;
 use packet::{Routine, Rule};
 use state::{AnswerAt, DiscAt, ListAt, State, Transfer};
 
-#[derive(Drop)]
+#[derive(Clone, Copy)]
 pub struct EventReply {
     pub house: House,
     pub state: State,
 }
 
-#[derive(Drop)]
+#[derive(Clone, Copy)]
 pub struct CommandReply {
     pub house: House,
     pub passed: bool,

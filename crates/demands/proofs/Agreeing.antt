@@ -1,5 +1,6 @@
 -- When the ledger agrees with the drive; and that it does after an event, if before it. Assumes nothing.
-use Rattle.ground.specs.Kit.{◌≡◌, refl, sym, ◌∙◌, Bool, true, List, [], ◌∷◌, flatten, ℕ, ◌+◌, arith, length}
+use Rattle.std.specs.Prelude.{◌≡◌, ◌∷◌, ◌+◌}
+use Rattle.ground.specs.Kit.{refl, sym, ◌∙◌, Bool, true, List, [], flatten, ℕ, arith, length}
 use Rattle.state.specs.declared.{Media.Media, Transfer.Transfer}
 use Rattle.disc.specs.Formats.{format_of, block_bytes, run_bytes, disc_bytes}
 use Rattle.state.specs.declared.Transfer.TheVariants.{Closed, Answer, Read, Write, ParameterList}

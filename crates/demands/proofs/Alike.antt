@@ -1,6 +1,7 @@
 -- A packet that is alike to a passing READ or WRITE but for address and length passes too, where its blocks are among the other's.
 -- Assumes nothing.
-use Rattle.ground.specs.Kit.{◌≡◌, refl, ◌∙◌, Bool, true, false, not, ◌&&◌, ◌||◌, false≢true, List, ℕ, ◌+◌, ◌≤◌, ◌<◌, ◌%◌, arith, eq-eqb, eqb-true, le-ltb, lt-leb, bit_and, and_mask, eqb, leb, ltb, length}
+use Rattle.std.specs.Prelude.{◌≡◌, ◌&&◌, ◌||◌, ◌+◌, ◌≤◌, ◌<◌, ◌%◌}
+use Rattle.ground.specs.Kit.{refl, ◌∙◌, Bool, true, false, not, false≢true, List, ℕ, arith, eq-eqb, eqb-true, le-ltb, lt-leb, bit_and, and_mask, eqb, leb, ltb, length}
 use Rattle.disc.specs.declared.{BlockAddress.BlockAddress}
 use Rattle.state.specs.declared.{Media.Media, Host.Host}
 use Rattle.packet.specs.declared.{Field.Field, Values.Values, Rule.Rule}

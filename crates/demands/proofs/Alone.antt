@@ -1,5 +1,6 @@
 -- What is heard of a device that meets the demands is the ledger's alone. Assumes nothing.
-use Rattle.ground.specs.Kit.{◌≡◌, refl, sym, ap, ◌∙◌, List, [], ◌∷◌, length}
+use Rattle.std.specs.Prelude.{◌≡◌, ◌∷◌}
+use Rattle.ground.specs.Kit.{refl, sym, ap, ◌∙◌, List, [], length}
 use Rattle.disc.specs.Formats.{disc_bytes}
 use Rattle.house.specs.World.{World, in_state, Heard}
 use Rattle.house.specs.Theorems.{Ready}

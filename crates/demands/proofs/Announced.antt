@@ -1,5 +1,6 @@
 -- While a change is pending and unannounced, nothing but INQUIRY and REQUEST SENSE passes. Assumes nothing.
-use Rattle.ground.specs.Kit.{◌≡◌, refl, sym, ◌∙◌, Bool, true, false, not, and-true, true≢false, false≢true, List, [], ◌∷◌, ℕ, not-false}
+use Rattle.std.specs.Prelude.{◌≡◌, ◌∷◌}
+use Rattle.ground.specs.Kit.{refl, sym, ◌∙◌, Bool, true, false, not, and-true, true≢false, false≢true, List, [], ℕ, not-false}
 use Rattle.state.specs.declared.{Media.Media, Host.Host}
 use Rattle.packet.specs.declared.{Rule.Rule}
 use Rattle.checks.specs.declared.{Verdict.Verdict}

@@ -1,5 +1,6 @@
 -- Demand 1 of our drive. Assumes nothing.
-use Rattle.ground.specs.Kit.{◌≡◌, refl, sym, ◌∙◌, true, false, true≢false, false≢true, List, ℕ}
+use Rattle.std.specs.Prelude.{◌≡◌}
+use Rattle.ground.specs.Kit.{refl, sym, ◌∙◌, true, false, true≢false, false≢true, List, ℕ}
 use Rattle.checks.specs.declared.{Verdict.Verdict}
 use Rattle.state.specs.States.{obeyed_of}
 use Rattle.checks.specs.declared.Verdict.TheVariants.{Passes, Fails}

@@ -1,6 +1,7 @@
 -- Two devices that meet the demands are heard alike from every world: what is lent wrongly is refused, and an event goes by the state alone.
 -- Assumes nothing.
-use Rattle.ground.specs.Kit.{◌≡◌, refl, sym, ap, ◌∙◌, Bool, true, false, true≢false, false≢true, cond, arith, List, [], ◌∷◌, flatten, ℕ, eq-eqb, eqb, eqb-true, eqb-false, length, length-replicate}
+use Rattle.std.specs.Prelude.{◌≡◌, ◌∷◌}
+use Rattle.ground.specs.Kit.{refl, sym, ap, ◌∙◌, Bool, true, false, true≢false, false≢true, cond, arith, List, [], flatten, ℕ, eq-eqb, eqb, eqb-true, eqb-false, length, length-replicate}
 use Rattle.ground.specs.Bytes.{zeros}
 use Rattle.disc.specs.Formats.{buffer_bytes, format_of, block_bytes, run_bytes, disc_bytes}
 use Rattle.state.specs.declared.{Sense.Sense, State.State}

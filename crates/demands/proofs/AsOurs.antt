@@ -1,5 +1,6 @@
 -- A device that is heard as ours is, and whose states are ours, from every sound state. Assumes nothing.
-use Rattle.ground.specs.Kit.{◌≡◌, refl, true}
+use Rattle.std.specs.Prelude.{◌≡◌}
+use Rattle.ground.specs.Kit.{refl, true}
 use Rattle.state.specs.States.{power_on}
 use Rattle.sound.specs.Soundness.{sound_b}
 use Rattle.house.specs.World.{World}

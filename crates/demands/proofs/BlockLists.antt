@@ -1,5 +1,6 @@
 -- A disc as a list of blocks of one length: its bytes, some of its blocks, and one block replaced. Assumes nothing.
-use Rattle.ground.specs.Kit.{◌≡◌, refl, sym, ap, ◌∙◌, List, [], ◌∷◌, ◌++◌, flatten, append_assoc, ℕ, zero, suc, ◌+◌, ◌*◌, ◌<◌, zero-mul, suc-mul, add_comm, add_assoc, zero-add, not-suc-le-zero, le_of_suc-le-suc, arith, length, take, drop, set, length-drop, length-append, take-append-drop, paste, length-take-le, take-nil, drop-nil, take_all, drop_at, take-append-add, drop-append-add}
+use Rattle.std.specs.Prelude.{◌≡◌, ◌∷◌, ◌++◌, ◌+◌, ◌*◌, ◌<◌}
+use Rattle.ground.specs.Kit.{refl, sym, ap, ◌∙◌, List, [], flatten, append_assoc, ℕ, zero, suc, zero-mul, suc-mul, add_comm, add_assoc, zero-add, not-suc-le-zero, le_of_suc-le-suc, arith, length, take, drop, set, length-drop, length-append, take-append-drop, paste, length-take-le, take-nil, drop-nil, take_all, drop_at, take-append-add, drop-append-add}
 use Rattle.demands.specs.Ledger.{blocks_of}
 
 module _ (b : ℕ) where
@@ -66,23 +67,23 @@ module _ (b : ℕ) where
   -- ---- one block replaced
 
   module _ (x : List ℕ) (whole : length x ≡ b) where
-    pub set-even : (bs : List (List ℕ)) (k : ℕ) → Even bs → Even (set bs k x)
-    set-even [] k e = tt
-    set-even (y ∷ ys) zero e = (whole, e.1)
-    set-even (y ∷ ys) (suc k) e = (e.0, set-even ys k e.1)
+    pub set_even : (bs : List (List ℕ)) (k : ℕ) → Even bs → Even (set bs k x)
+    set_even [] k e = tt
+    set_even (y ∷ ys) zero e = (whole, e.1)
+    set_even (y ∷ ys) (suc k) e = (e.0, set_even ys k e.1)
 
-    pub set-block : (bs : List (List ℕ)) (k : ℕ) → Even bs → k < length bs → flatten (set bs k x) ≡ paste (flatten bs) (k * b) x b
+    pub set_block : (bs : List (List ℕ)) (k : ℕ) → Even bs → k < length bs → flatten (set bs k x) ≡ paste (flatten bs) (k * b) x b
     unfolding flatten
-    set-block [] k e h = absurd (not-suc-le-zero h)
-    set-block (y ∷ ys) zero e h = rw (zero-mul b, zero-add b, take_all b x (omega arith), drop_at y (flatten ys) b e.0)
-    set-block (y ∷ ys) (suc k) e h =
+    set_block [] k e h = absurd (not-suc-le-zero h)
+    set_block (y ∷ ys) zero e h = rw (zero-mul b, zero-add b, take_all b x (omega arith), drop_at y (flatten ys) b e.0)
+    set_block (y ∷ ys) (suc k) e h =
         let rest = flatten ys in
         rw (
           next k,
           add_assoc b (k * b) b,
           take_past y e.0 rest (k * b),
           drop_past y e.0 rest (k * b + b),
-          set-block ys k e.1 (le_of_suc-le-suc h),
+          set_block ys k e.1 (le_of_suc-le-suc h),
           append_assoc y (take (k * b) rest) (take b x),
           append_assoc y (take (k * b) rest ++ take b x) (drop (k * b + b) rest),
         )

@@ -1,5 +1,6 @@
 -- A READ or WRITE that is carried through, whole or cut into consecutive commands, moves the same bytes. Assumes nothing.
-use Rattle.ground.specs.Kit.{◌≡◌, refl, sym, ap, subst, ◌∙◌, true, not, ◌&&◌, ◌||◌, false≢true, List, [], ◌∷◌, ◌++◌, append-nil, flatten, ℕ, ◌+◌, ◌-◌, ◌≤◌, min, add-zero, zero-mul, arith, length, take, drop, length-drop, length-append, take-append-drop, length-take-le, take_at, drop-length}
+use Rattle.std.specs.Prelude.{◌≡◌, ◌&&◌, ◌||◌, ◌∷◌, ◌++◌, ◌+◌, ◌-◌, ◌≤◌}
+use Rattle.ground.specs.Kit.{refl, sym, ap, subst, ◌∙◌, true, not, false≢true, List, [], append-nil, flatten, ℕ, min, add-zero, zero-mul, arith, length, take, drop, length-drop, length-append, take-append-drop, length-take-le, take_at, drop-length}
 use Rattle.disc.specs.declared.{BlockAddress.BlockAddress}
 use Rattle.state.specs.declared.{State.State}
 use Rattle.packet.specs.declared.{Routine.Routine, Rule.Rule}

@@ -1,5 +1,6 @@
 -- Devices that one cutting tells from ours, over any block buffer and any disc 4. Assumes nothing.
-use Rattle.ground.specs.Kit.{◌≡◌, refl, ap, ◌∙◌, true, false, false≢true, List, [], ◌∷◌, ◌++◌, append-nil, flatten, ℕ, ◌+◌, ◌≤◌, min, add-zero, arith, lit≤, length, get_or, get_or-set_same, take, drop, set, length-set, length-append, length-drop, length-take-le, take_at}
+use Rattle.std.specs.Prelude.{◌≡◌, ◌∷◌, ◌++◌, ◌+◌, ◌≤◌}
+use Rattle.ground.specs.Kit.{refl, ap, ◌∙◌, true, false, false≢true, List, [], append-nil, flatten, ℕ, min, add-zero, arith, lit≤, length, get_or, get_or-set_same, take, drop, set, length-set, length-append, length-drop, length-take-le, take_at}
 use Rattle.ground.specs.Bytes.{zeros}
 use Rattle.disc.specs.Formats.{buffer_bytes, format_of, block_bytes, run_bytes}
 use Rattle.state.specs.declared.Transfer.TheVariants.{Closed}
@@ -14,7 +15,7 @@ use Rattle.demands.specs.Device.{Device}
 use Rattle.demands.specs.Uncut.{Lent, lend_all, CutAnywhere, Carried, carry, Part, carry_all, ReadsCut}
 use Rattle.demands.specs.Wrong.{first_block_only, first_pull_only}
 use Rattle.demands.specs.Independent.{marks_feeds, fails_pairs}
-use Rattle.demands.proofs.OnDisc4.{read, reading, writing, open4, Ours, ours, ready-closed, ready-reading, ready-writing}
+use Rattle.demands.proofs.OnDisc4.{read, reading, writing, open4, Ours, ours, ready_closed, ready_reading, ready_writing}
 
 -- n blocks, lent for in one piece
 abbrev part : ℕ → Part
@@ -47,11 +48,11 @@ module _ (v : World) (disc : List ℕ) (b : length v.buffer ≡ buffer_bytes) (d
   marks_feeds_lem f =
       let w = open4 v disc (writing 0 1024) in
       let pieces : List (List ℕ) = (1 ∷ []) ∷ (2 ∷ []) ∷ [] in
-      let cut : lend_all marks_feeds Feed w pieces ≡ lend_all marks_feeds Feed w ((1 ∷ 2 ∷ []) ∷ []) = f w pieces (ready-writing v disc b d) in
+      let cut : lend_all marks_feeds Feed w pieces ≡ lend_all marks_feeds Feed w ((1 ∷ 2 ∷ []) ∷ []) = f w pieces (ready_writing v disc b d) in
       let once = set v.buffer 0 1 in
       let marked = set once 1023 1 in
       let long : length marked ≡ 1024 = length-set once 1023 1 ∙ length-set v.buffer 0 1 ∙ b in
-      let same = rw (our.feeds (1 ∷ []), (ours (in_buffer v marked) disc long d).feeds-on (2 ∷ []), our.feeds (1 ∷ 2 ∷ [])) at cut in
+      let same = rw (our.feeds (1 ∷ []), (ours (in_buffer v marked) disc long d).feeds_on (2 ∷ []), our.feeds (1 ∷ 2 ∷ [])) at cut in
       let mark : get_or (set (set marked 1 2) 1023 2) 1023 0 ≡ get_or (set (set once 1 2) 1023 1) 1023 0 = ap (λ (l : Lent). get_or l.world.buffer 1023 0) same in
       omega (arith, last marked 1 2 2 long, last once 1 2 1 (length-set v.buffer 0 1 ∙ b))
 
@@ -61,8 +62,8 @@ module _ (v : World) (disc : List ℕ) (b : length v.buffer ≡ buffer_bytes) (d
   first_pull_only_lem f =
       let w = open4 v disc (reading 0 512) in
       let pieces : List (List ℕ) = (0 ∷ []) ∷ (0 ∷ 0 ∷ []) ∷ [] in
-      let cut : lend_all first_pull_only Pull w pieces ≡ lend_all first_pull_only Pull w ((0 ∷ 0 ∷ 0 ∷ []) ∷ []) = f w pieces (ready-reading v disc b d) in
-      let same = rw (our.pulls (0 ∷ []), our.pulls-none (0 ∷ 0 ∷ []), our.pulls (0 ∷ 0 ∷ 0 ∷ [])) at cut in
+      let cut : lend_all first_pull_only Pull w pieces ≡ lend_all first_pull_only Pull w ((0 ∷ 0 ∷ 0 ∷ []) ∷ []) = f w pieces (ready_reading v disc b d) in
+      let same = rw (our.pulls (0 ∷ []), our.pulls_none (0 ∷ 0 ∷ []), our.pulls (0 ∷ 0 ∷ 0 ∷ [])) at cut in
       let z : ◌≡◌ {A = ℕ} 1 3 = ap (λ (l : Lent). l.count) same in
       omega arith
 
@@ -77,7 +78,7 @@ module _ (v : World) (disc : List ℕ) (b : length v.buffer ≡ buffer_bytes) (d
   three_cut device passes f =
       f closed (read 0 3) _ (part 3).pieces (part 2 ∷ part 1 ∷ [])
       (record {
-        ready = ready-closed v disc b d false;
+        ready = ready_closed v disc b d false;
         code = refl;
         known = refl;
         passes = passes;
@@ -92,7 +93,7 @@ module _ (v : World) (disc : List ℕ) (b : length v.buffer ≡ buffer_bytes) (d
       → length (given 512 disc (zeros 1024) ++ (given 512 (drop 1024 disc) (zeros 512) ++ [])) ≡ length (given 512 disc (zeros 1536))
   unfolding given moved_of format_of block_bytes run_bytes
   blocks_given f =
-      rw (our.reads_two, our.pulls (zeros 1024), our.reads-third, our.pulls-third (zeros 512), our.reads_three, our.pulls (zeros 1536)) at
+      rw (our.reads_two, our.pulls (zeros 1024), our.reads_third, our.pulls_third (zeros 512), our.reads_three, our.pulls (zeros 1536)) at
       (ap (λ (c : Carried). length c.bytes) (three_cut first_block_only (rw our.reads_three) f))
 
   first_block_only_lem : ReadsCut first_block_only → ⊥

@@ -1,5 +1,6 @@
 -- A parameter list that is cut after its first byte is taken and judged as it is whole. Assumes nothing.
-use Rattle.ground.specs.Kit.{◌≡◌, refl, sym, ap, subst, ◌∙◌, Bool, true, false, List, [], ◌∷◌, ℕ, suc, ◌+◌, ◌-◌, min, sub-zero, arith, eqb, eqb-true, eqb-false, eq-eqb, ne_eqb, length, take, sets}
+use Rattle.std.specs.Prelude.{◌≡◌, ◌∷◌, ◌+◌, ◌-◌}
+use Rattle.ground.specs.Kit.{refl, sym, ap, subst, ◌∙◌, Bool, true, false, List, [], ℕ, suc, min, sub-zero, arith, eqb, eqb-true, eqb-false, eq-eqb, ne_eqb, length, take, sets}
 use Rattle.state.specs.declared.{State.State, ListAt.ListAt}
 use Rattle.state.specs.declared.Transfer.TheVariants.{Closed, ParameterList}
 use Rattle.state.specs.States.{list_bytes, obeyed_of, moved_of}
@@ -44,8 +45,8 @@ module _ {d : Device} {puts : Puts} (f : Feeds d puts) where
     unfolding moved_of
     still = rw (sub-zero p.left, ne_eqb p.left 0 (λ z. omega (arith, is_open.some, z)), ← e)
 
-    pub list-nothing : lend_one d Feed w [] ≡ lent 0 [] w
-    list-nothing =
+    pub list_nothing : lend_one d Feed w [] ≡ lent 0 [] w
+    list_nothing =
         let none : min 0 p.left ≡ 0 = omega arith in
         fed w r p e []
         ∙ rw (none, ne_eqb 0 p.left (λ z. omega (arith, is_open.some, z))) (ap (λ (s : State). lent 0 [] (in_state w s)) still)
@@ -112,8 +113,8 @@ module _ {d : Device} {puts : Puts} (f : Feeds d puts) where
           fed w r p e (x ∷ xs) ∙ whole ∙ sym behind
           ∙ sym (ap (λ (l : Lent). join l (lend_one d Feed l.world xs)) taken ∙ ap (join (lent 1 (x ∷ []) w₁)) rest)
 
-    pub list-first : FirstApart d Feed w
-    list-first x xs r₁ = here (eqb p.left 1) refl
+    pub list_first : FirstApart d Feed w
+    list_first x xs r₁ = here (eqb p.left 1) refl
       where
         here : (b : Bool) → eqb p.left 1 ≡ b → lend_one d Feed w (x ∷ xs) ≡ join (lend_one d Feed w (x ∷ [])) (lend_one d Feed (lend_one d Feed w (x ∷ [])).world xs)
         here true q = last-first (eqb-true p.left 1 q) x xs r₁

@@ -1,6 +1,7 @@
 -- Data lent whole or cut anywhere are moved alike: any lending moves its first byte as a lending of that byte alone does.
 -- Assumes nothing.
-use Rattle.ground.specs.Kit.{◌≡◌, sym, ap, subst, ◌∙◌, List, [], ◌∷◌, ◌++◌, flatten, append_assoc, append-nil, ℕ, ◌+◌, ◌-◌, ◌<◌, min, zero-add, add_assoc, arith, ne_eqb}
+use Rattle.std.specs.Prelude.{◌≡◌, ◌∷◌, ◌++◌, ◌+◌, ◌-◌, ◌<◌}
+use Rattle.ground.specs.Kit.{sym, ap, subst, ◌∙◌, List, [], flatten, append_assoc, append-nil, ℕ, min, zero-add, add_assoc, arith, ne_eqb}
 use Rattle.state.specs.States.{closed_at_zero, moved_of}
 use Rattle.state.specs.declared.Transfer.TheVariants.{Answer, Read, Write}
 use Rattle.sound.specs.Soundness.{open_sound_b}
@@ -13,7 +14,7 @@ use Rattle.pulls.proofs.ByTransfer.{Pulling, idles as unpulled, answers, reads, 
 use Rattle.drive.specs.Calls.{Call, Feed, Pull}
 use Rattle.demands.specs.Device.{Device}
 use Rattle.demands.specs.Uncut.{Lent, lent, lend_all, CutAnywhere}
-use Rattle.demands.proofs.CutLists.{FirstApart, list-nothing, list-first}
+use Rattle.demands.proofs.CutLists.{FirstApart, list_nothing, list_first}
 use Rattle.demands.proofs.Serving.{
   lend_one,
   join,
@@ -47,7 +48,7 @@ module _ (w : World) (r : Ready w) where
   feed_finds f (writes p e) =
       let o = sound-write w.state.media p (open_sound w r (Write p) e) in
       busy (feed_served f) p.at.0 p.left o.on.some e
-  feed_finds f (lists p e) = judging (list-nothing f w r p e) (list-first f w r p e)
+  feed_finds f (lists p e) = judging (list_nothing f w r p e) (list_first f w r p e)
 
   -- a pull serves a read and an answer
   pull_finds : {d : Device} {reads answers : Gives} → Pulls d reads answers → Pulling w.state.transfer → Lending d Pull w

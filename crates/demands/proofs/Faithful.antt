@@ -1,5 +1,6 @@
 -- Demand 2 of our drive, and of any device that is heard as ours. Assumes nothing.
-use Rattle.ground.specs.Kit.{◌≡◌, refl, ap, ◌∙◌, true, List, [], ◌∷◌, ne_eqb}
+use Rattle.std.specs.Prelude.{◌≡◌, ◌∷◌}
+use Rattle.ground.specs.Kit.{refl, ap, ◌∙◌, true, List, [], ne_eqb}
 use Rattle.state.specs.declared.{Media.Media}
 use Rattle.sound.specs.Soundness.{sound_b}
 use Rattle.checks.specs.Verdicts.{verdict}

@@ -1,5 +1,6 @@
 -- What the ledger foretells of a call is what is heard of it. Assumes nothing.
-use Rattle.ground.specs.Kit.{◌≡◌, refl, sym, ap, ◌∙◌, Bool, true, false, cond, not, ◌||◌, List, [], ℕ, ◌+◌, arith, eqb-true, eqb-false, eq-eqb, ne_eqb, eqb, length}
+use Rattle.std.specs.Prelude.{◌≡◌, ◌||◌, ◌+◌}
+use Rattle.ground.specs.Kit.{refl, sym, ap, ◌∙◌, Bool, true, false, cond, not, List, [], ℕ, arith, eqb-true, eqb-false, eq-eqb, ne_eqb, eqb, length}
 use Rattle.state.specs.declared.{Sense.Sense, Media.Media, Transfer.Transfer}
 use Rattle.checks.specs.declared.{Verdict.Verdict}
 use Rattle.state.specs.Senses.{no_disc}

@@ -1,9 +1,10 @@
 -- Bytes that are fed to the drive and gathered by the ledger leave the same blocks. Assumes nothing.
-use Rattle.ground.specs.Kit.{◌≡◌, refl, sym, ap, ◌∙◌, Bool, true, false, List, [], ◌∷◌, ◌++◌, flatten, ℕ, suc, ◌+◌, ◌*◌, ◌<◌, ◌≤◌, add-mul, one-mul, lt_of_mul-lt-mul_right, add-one, arith, eqb-true, eqb-false, eqb, length, take, set, length-set, length-append, paste, take_all, take-suc-set}
+use Rattle.std.specs.Prelude.{◌≡◌, ◌∷◌, ◌++◌, ◌+◌, ◌*◌, ◌<◌, ◌≤◌}
+use Rattle.ground.specs.Kit.{refl, sym, ap, ◌∙◌, Bool, true, false, List, [], flatten, ℕ, suc, add-mul, one-mul, lt_of_mul-lt-mul_right, add-one, arith, eqb-true, eqb-false, eqb, length, take, set, length-set, length-append, paste, take_all, take-suc-set}
 use Rattle.feeds.specs.Feeding.{Writing, writing, feed_byte, feed_bytes}
-use Rattle.feeds.proofs.Feeding.{at_byte, feed-inside, feed-last, byte_lengths}
+use Rattle.feeds.proofs.Feeding.{at_byte, feed_inside, feed_last, byte_lengths}
 use Rattle.demands.specs.Ledger.{Store, store, blocks_on, gather_byte, gather}
-use Rattle.demands.proofs.BlockLists.{Even, even_length, set-even, set-block}
+use Rattle.demands.proofs.BlockLists.{Even, even_length, set_even, set_block}
 
 module _ (b : ℕ) where
   -- the disc is the ledger's blocks, and the block buffer has of the block being written what the ledger got
@@ -38,7 +39,7 @@ module _ (b : ℕ) where
     inside h =
         let e : feed_byte b w x ≡ writing (at_byte (s.block.0 * b + suc (length s.got))) buffer w.disc =
         ap (λ (at : ℕ). feed_byte b (place at) x) g.at
-        ∙ feed-inside b s.block.0 (length s.got) x w.buffer w.disc (omega (arith, one_more, g.short)) in
+        ∙ feed_inside b s.block.0 (length s.got) x w.buffer w.disc (omega (arith, one_more, g.short)) in
         rw e
         (record {
           at = omega (arith, one_more);
@@ -57,7 +58,7 @@ module _ (b : ℕ) where
     last h =
         let e : feed_byte b w x ≡ writing (at_byte (s.block.0 * b + suc (length s.got))) buffer (paste w.disc (s.block.0 * b) buffer b) =
         ap (λ (at : ℕ). feed_byte b (place at) x) g.at
-        ∙ feed-last b s.block.0 (length s.got) x w.buffer w.disc (omega (arith, one_more)) in
+        ∙ feed_last b s.block.0 (length s.got) x w.buffer w.disc (omega (arith, one_more)) in
         let stored : take b buffer ≡ take b more = rw (take_all b more (omega arith), ← h) now in
         rw e
         (record {
@@ -65,12 +66,12 @@ module _ (b : ℕ) where
           short = omega (arith, g.short);
           got = refl;
           held = rw (length-set w.buffer (length s.got) x) g.held;
-          even = set-even b more h s.blocks s.block.0 g.even;
-          disc = rw (g.disc, stored) (sym (set-block b more h s.blocks s.block.0 g.even on_disc));
+          even = set_even b more h s.blocks s.block.0 g.even;
+          disc = rw (g.disc, stored) (sym (set_block b more h s.blocks s.block.0 g.even on_disc));
         })
 
-    pub gathered-byte : Gathered (gather_byte b s x) (feed_byte b w x)
-    gathered-byte = here (eqb (length more) b) refl
+    pub gathered_byte : Gathered (gather_byte b s x) (feed_byte b w x)
+    gathered_byte = here (eqb (length more) b) refl
       where
         here : (t : Bool) → eqb (length more) b ≡ t → Gathered (gather_byte b s x) (feed_byte b w x)
         here true q = rw q (last (eqb-true (length more) b q))
@@ -82,4 +83,4 @@ module _ (b : ℕ) where
   gathered [] s w g room = g
   gathered (x ∷ xs) s w g room =
       let same = (byte_lengths b (omega (arith, g.short)) w x g.held (omega arith)).1 in
-      gathered xs (gather_byte b s x) (feed_byte b w x) (gathered-byte s w g x (omega arith)) (rw same (omega arith))
+      gathered xs (gather_byte b s x) (feed_byte b w x) (gathered_byte s w g x (omega arith)) (rw same (omega arith))

@@ -1,5 +1,6 @@
 -- Devices that break one demand alone. Assumes nothing.
-use Rattle.ground.specs.Kit.{◌≡◌, refl, sym, ap, subst, ◌∙◌, Bool, true, false, false≢true, cond, List, [], ◌∷◌, ℕ, arith, eqb-true, ne_eqb, eqb, length, length-set, length-replicate, take, set, take-set-le}
+use Rattle.std.specs.Prelude.{◌≡◌, ◌∷◌}
+use Rattle.ground.specs.Kit.{refl, sym, ap, subst, ◌∙◌, Bool, true, false, false≢true, cond, List, [], ℕ, arith, eqb-true, ne_eqb, eqb, length, length-set, length-replicate, take, set, take-set-le}
 use Rattle.state.specs.declared.{DiscAt.DiscAt, Transfer.Transfer}
 use Rattle.ground.specs.Bytes.{zeros}
 use Rattle.disc.specs.Formats.{block_bytes}
@@ -21,7 +22,7 @@ use Rattle.drive.proofs.Staying.{stays}
 use Rattle.demands.specs.Answered.{event_b, Answered}
 use Rattle.demands.specs.Ledger.{Store, none, Ledger, listed_in}
 use Rattle.demands.specs.Uncut.{Cuttings}
-use Rattle.demands.specs.Wrong.{feeding, leaving, stores_bytes, version_three}
+use Rattle.demands.specs.Wrong.{by_open, feeding, leaving, stores_bytes, version_three}
 use Rattle.demands.specs.Independent.{marked, marking, marks_feeds, starts_anew, Independent}
 use Rattle.demands.proofs.Answered.{answered}
 use Rattle.demands.proofs.Agreeing.{GatheredIn, Agrees}
@@ -133,21 +134,25 @@ fed_agrees w x l p e = by_call w (Feed x) Kept (λ _ a. a) (λ _. subst (λ (t :
         (λ b. write_unlisted rest b ∙ sym (write_unlisted rest fed.world.buffer))
         (take fed.heard.count x)
 
+-- what a device makes of our reply to a feed, where it alters the feeds of an open write by `f`
+abbrev in_writes : (DiscAt → World → List ℕ → Reply → Reply) → World → List ℕ → Reply → Reply
+in_writes f w piece a = by_open (λ p. a) (λ p. f p w piece a) (λ p. a) a w.state.transfer
+
 marks : AsOurs marks_feeds
 marks =
     record {
       start = refl;
-      heard = by_fed _ (λ w c a. a.heard ≡ (call_of w c).heard) (λ w c. refl)
+      heard = by_fed (in_writes marking) (λ w c a. a.heard ≡ (call_of w c).heard) (λ w c. refl)
           (λ w x. by_write marking w x (λ a. a.heard ≡ (call_of w (Feed x)).heard) refl (λ p e. refl));
-      state = by_fed _ (λ w c a. sound_b w.state ≡ true → a.world.state ≡ (call_of w c).world.state) (λ w c sound. refl)
+      state = by_fed (in_writes marking) (λ w c a. sound_b w.state ≡ true → a.world.state ≡ (call_of w c).world.state) (λ w c sound. refl)
           (λ w x sound. by_write marking w x (λ a. a.world.state ≡ (call_of w (Feed x)).world.state) refl (λ p e. refl));
-      agrees = by_fed _ (λ w c a. sound_b w.state ≡ true → (l : Ledger) → Agrees (call_of w c).world l → Agrees a.world l) (λ w c sound l a. a)
+      agrees = by_fed (in_writes marking) (λ w c a. sound_b w.state ≡ true → (l : Ledger) → Agrees (call_of w c).world l → Agrees a.world l) (λ w c sound l a. a)
           (λ w x sound l g. by_write marking w x (λ a. Agrees a.world l) g (λ p e. fed_agrees w x l p e g));
     }
 
 marks_answered : Answered marks_feeds
 marks_answered =
-    answered_feeding _ (λ w x. by_write marking w x (λ a. a.heard.house ≡ (call_of w (Feed x)).heard.house) refl (λ p e. refl))
+    answered_feeding (in_writes marking) (λ w x. by_write marking w x (λ a. a.heard.house ≡ (call_of w (Feed x)).heard.house) refl (λ p e. refl))
     (λ w x some. by_write marking w x (λ a. a ≡ call_of w (Feed x)) refl (λ p e. rw (refused w (Feed x) some)))
     (λ w x. by_write marking w x (λ a. a.world.state ≡ (call_of w (Feed x)).world.state) refl (λ p e. refl))
     (λ w x r.
@@ -169,7 +174,7 @@ by_leaving P a v accepted same = here (eqb a.heard.house 0) refl
 
 three_answered : Answered version_three
 three_answered =
-    answered_feeding _
+    answered_feeding (in_writes stores_bytes)
     (λ w x.
     let a = call_of w (Feed x) in
     by_write stores_bytes w x (λ r. r.heard.house ≡ a.heard.house) refl (λ p e. by_leaving (λ r. r.heard.house ≡ a.heard.house) a _ sym refl))

@@ -1,5 +1,6 @@
 -- A feed of an open parameter list leaves the ledger in agreement. Assumes nothing.
-use Rattle.ground.specs.Kit.{◌≡◌, refl, sym, ap, ◌∙◌, true, false, cond, List, [], ◌++◌, flatten, ℕ, ◌+◌, ◌-◌, ◌<◌, ◌≤◌, min, add-zero, arith, eq-eqb, ne_eqb, eqb, leb-true, length, length-append, take, drop, length-take-le, take_at, sets, sets-eq, eq_of_mul-eq-mul_right}
+use Rattle.std.specs.Prelude.{◌≡◌, ◌++◌, ◌+◌, ◌-◌, ◌<◌, ◌≤◌}
+use Rattle.ground.specs.Kit.{refl, sym, ap, ◌∙◌, true, false, cond, List, [], flatten, ℕ, min, add-zero, arith, eq-eqb, ne_eqb, eqb, leb-true, length, length-append, take, drop, length-take-le, take_at, sets, sets-eq, eq_of_mul-eq-mul_right}
 use Rattle.state.specs.declared.{Media.Media, Host.Host, ListAt.ListAt}
 use Rattle.disc.specs.Formats.{format_of, block_bytes, run_bytes, disc_bytes}
 use Rattle.disc.proofs.Discs.{block_holds}

@@ -1,5 +1,6 @@
 -- The ledger that is read off a ready world agrees with it. Assumes nothing.
-use Rattle.ground.specs.Kit.{◌≡◌, refl, sym, List, flatten, ℕ, ◌+◌, ◌≤◌, ◌%◌, add-zero, arith, div-add-mod', mod-lt, length, take, drop, length-drop, length-take-le}
+use Rattle.std.specs.Prelude.{◌≡◌, ◌+◌, ◌≤◌, ◌%◌}
+use Rattle.ground.specs.Kit.{refl, sym, List, flatten, ℕ, add-zero, arith, div-add-mod', mod-lt, length, take, drop, length-drop, length-take-le}
 use Rattle.state.specs.declared.{Transfer.Transfer}
 use Rattle.disc.specs.Formats.{format_of, block_bytes, run_bytes, disc_bytes}
 use Rattle.disc.proofs.Discs.{block_fits, block_holds}

@@ -1,5 +1,6 @@
 -- A feed and a pull leave the ledger in agreement, and their counts and bytes are the ledger's. Assumes nothing.
-use Rattle.ground.specs.Kit.{◌≡◌, refl, sym, ap, subst, ◌∙◌, true, false, List, [], ◌++◌, flatten, ℕ, ◌+◌, ◌-◌, ◌≤◌, min, sub-zero, arith, length, take, drop, length-drop, length-take-le, take-add, drop_at, take-take, drop-drop}
+use Rattle.std.specs.Prelude.{◌≡◌, ◌++◌, ◌+◌, ◌-◌, ◌≤◌}
+use Rattle.ground.specs.Kit.{refl, sym, ap, subst, ◌∙◌, true, false, List, [], flatten, ℕ, min, sub-zero, arith, length, take, drop, length-drop, length-take-le, take-add, drop_at, take-take, drop-drop}
 use Rattle.state.specs.declared.{Media.Media, Host.Host, AnswerAt.AnswerAt, DiscAt.DiscAt, ListAt.ListAt, Transfer.Transfer}
 use Rattle.disc.specs.Formats.{block_bytes}
 use Rattle.state.specs.declared.Transfer.TheVariants.{Closed, Answer, Read, Write, ParameterList}

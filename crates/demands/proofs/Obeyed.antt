@@ -1,5 +1,6 @@
 -- What wrong devices obey all the same. Assumes nothing.
-use Rattle.ground.specs.Kit.{◌≡◌, refl, sym, ap, ◌∙◌, Bool, true, false, List, [], ◌∷◌, ◌++◌, ℕ, ◌+◌, arith, eqb, length, take, replicate, length-replicate, replicate-append-replicate, sets, length-sets}
+use Rattle.std.specs.Prelude.{◌≡◌, ◌∷◌, ◌++◌, ◌+◌}
+use Rattle.ground.specs.Kit.{refl, sym, ap, ◌∙◌, Bool, true, false, List, [], ℕ, arith, eqb, length, take, replicate, length-replicate, replicate-append-replicate, sets, length-sets}
 use Rattle.state.specs.declared.{DiscAt.DiscAt, Transfer.Transfer}
 use Rattle.ground.proofs.Parts.{sets_more}
 use Rattle.state.specs.declared.Transfer.TheVariants.{Closed, Answer as AnswerFrom, Read, Write, ParameterList}
@@ -14,7 +15,7 @@ use Rattle.drive.proofs.Calling.{numbered}
 use Rattle.drive.proofs.Staying.{keeps, fed_media}
 use Rattle.demands.specs.Device.{Device, drive}
 use Rattle.demands.specs.Uncut.{Lent, lent, carried, Part}
-use Rattle.demands.specs.Wrong.{hands_out_zeros, discards_feeds, first_block_only, first_pull_only, pulled_once, by_open, feeding_writes, version_one, version_three, OnePullEach, Obeyed}
+use Rattle.demands.specs.Wrong.{hands_out_zeros, discards_feeds, first_block_only, first_pull_only, pulled_once, by_open, feeding_writes, stores_bytes, version_one, version_three, leaving, OnePullEach, Obeyed}
 use Rattle.demands.proofs.Serving.{lend_one, moving, Puts, written, feeding, Put, Feeds, our_puts, our_feeds, Gives, Given, Pulls, from_disc, from_buffer, our_pulls}
 use Rattle.demands.proofs.Cutting.{cut_anywhere, feed_way, pull_way}
 use Rattle.demands.proofs.Carrying.{All, Same, reads_cut_by, cuttings, disc_gives}
@@ -123,10 +124,14 @@ module _ (f : DiscAt → World → List ℕ → Reply → Reply) where
         lists = λ w p x r e. rw e;
       }
 
+-- what it makes of our reply to a feed of an open write
+abbrev discarding : DiscAt → World → List ℕ → Reply → Reply
+discarding p w piece a = leaving a (in_state w a.world.state)
+
 discarded : Feeds discards_feeds discards
 unfolding call_of
 discarded =
-    alters _ discards (record { none = λ number at buffer disc. refl; more = λ number at x y buffer disc. refl })
+    alters discarding discards (record { none = λ number at buffer disc. refl; more = λ number at x y buffer disc. refl })
     (λ w p x e. rw e)
     (λ w p x r e. rw (accepted w x r) (still_ready w x r w.disc refl))
     (λ w p x r e f. rw (e, f))
@@ -134,7 +139,7 @@ discarded =
 pub stored : Feeds version_three stores
 unfolding call_of
 stored =
-    alters _ stores (record { none = λ number at buffer disc. refl; more = λ number at x y buffer disc. rw (sets_more x y disc at) })
+    alters stores_bytes stores (record { none = λ number at buffer disc. refl; more = λ number at x y buffer disc. rw (sets_more x y disc at) })
     (λ w p x e. rw e)
     (λ w p x r e. rw (accepted w x r) (still_ready w x r _ (length-sets w.disc p.at.0 (take (call_of w (Feed x)).heard.count x))))
     (λ w p x r e f. rw (e, f))

@@ -1,5 +1,6 @@
 -- What our drive does over any block buffer and any disc 4: by computation. Assumes nothing.
-use Rattle.ground.specs.Kit.{◌≡◌, refl, ap, Bool, true, false, List, [], ◌∷◌, ◌++◌, ℕ, min, length, take, drop, length-drop, replicate}
+use Rattle.std.specs.Prelude.{◌≡◌, ◌∷◌, ◌++◌}
+use Rattle.ground.specs.Kit.{refl, ap, Bool, true, false, List, [], ℕ, min, length, take, drop, length-drop, replicate}
 use Rattle.state.specs.declared.{Sense.Sense, Transfer.Transfer}
 use Rattle.disc.specs.Formats.{buffer_bytes, format_of, block_bytes, run_bytes, disc_bytes, place_of}
 use Rattle.disc.specs.Masks.{masks, mask_row}
@@ -105,17 +106,17 @@ module _ (w : World) (disc : List ℕ) where
     pub refuses : call_of (open4 (reading 0 512)) (Insert 4 false disc) ≡ refusal 5 (open4 (reading 0 512)) []
     pub inquires : call_of (with4 true no_sense Closed) (Command inquiry) ≡ passes (with4 true no_sense Closed)
     -- to unit 0 and to another
-    pub inquires-here : call_of (open4 Closed) (Command (inquiry_at 0)) ≡ passes (answering4 0x00)
-    pub inquires-elsewhere : call_of (open4 Closed) (Command (inquiry_at 7)) ≡ passes (answering4 0x1f)
-    pub unknown-fails : call_of (with4 true no_sense Closed) (Command unknown) ≡ leaves (with4 true unknown_code Closed)
+    pub inquires_here : call_of (open4 Closed) (Command (inquiry_at 0)) ≡ passes (answering4 0x00)
+    pub inquires_elsewhere : call_of (open4 Closed) (Command (inquiry_at 7)) ≡ passes (answering4 0x1f)
+    pub unknown_fails : call_of (with4 true no_sense Closed) (Command unknown) ≡ leaves (with4 true unknown_code Closed)
     -- TEST UNIT READY tells the change if it is pending, else it passes
     pub tells : (sense : Sense) → named_b sense ≡ true → call_of (with4 true sense Closed) (Command test) ≡ leaves (with4 false change_told Closed)
     pub tests : (sense : Sense) → named_b sense ≡ true → call_of (with4 false sense Closed) (Command test) ≡ passes (open4 Closed)
-    pub inquiry-passes : (judged_of (verdict (media_of 4 false) (host_of false true no_sense) inquiry)).passed ≡ true
-    pub elsewhere-passes : (judged_of (verdict (media_of 4 false) (host_of false false no_sense) (inquiry_at 7))).passed ≡ true
-    pub test-fails : (judged_of (verdict (media_of 4 false) (host_of false true no_sense) test)).passed ≡ false
-    pub test-passes : (judged_of (verdict (media_of 4 false) (host_of false false change_told) test)).passed ≡ true
-    pub reads-third : call_of (open4 Closed) (Command (read 2 1)) ≡ passes (open4 (reading 1024 512))
+    pub inquiry_passes : (judged_of (verdict (media_of 4 false) (host_of false true no_sense) inquiry)).passed ≡ true
+    pub elsewhere_passes : (judged_of (verdict (media_of 4 false) (host_of false false no_sense) (inquiry_at 7))).passed ≡ true
+    pub test_fails : (judged_of (verdict (media_of 4 false) (host_of false true no_sense) test)).passed ≡ false
+    pub test_passes : (judged_of (verdict (media_of 4 false) (host_of false false change_told) test)).passed ≡ true
+    pub reads_third : call_of (open4 Closed) (Command (read 2 1)) ≡ passes (open4 (reading 1024 512))
     pub reads_two : call_of (open4 Closed) (Command (read 0 2)) ≡ passes (open4 (reading 0 1024))
     pub reads_three : call_of (open4 Closed) (Command (read 0 3)) ≡ passes (open4 (reading 0 1536))
     pub writes : call_of (open4 Closed) (Command write) ≡ passes (open4 (writing 0 1024))
@@ -123,11 +124,11 @@ module _ (w : World) (disc : List ℕ) where
     -- pulls of an open answer, of an open READ and with nothing open, feeds of a WRITE of one block and of two, and of a list
     pub pulls_answer : (byte : ℕ) (out : List ℕ) → call_of (answering4 byte) (Pull out) ≡ pull_by (answering4 byte).state.transfer (answering4 byte) out
     pub pulls : (out : List ℕ) → call_of (open4 (reading 0 512)) (Pull out) ≡ pull_by (reading 0 512) (open4 (reading 0 512)) out
-    pub pulls-third : (out : List ℕ) → call_of (open4 (reading 1024 512)) (Pull out) ≡ pull_by (reading 1024 512) (open4 (reading 1024 512)) out
-    pub pulls-none : (out : List ℕ) → call_of (open4 Closed) (Pull out) ≡ reply 0 false 0 out (open4 Closed)
-    pub feeds-one : (piece : List ℕ) → call_of (open4 (writing 0 512)) (Feed piece) ≡ feed_by (writing 0 512) (open4 (writing 0 512)) piece
+    pub pulls_third : (out : List ℕ) → call_of (open4 (reading 1024 512)) (Pull out) ≡ pull_by (reading 1024 512) (open4 (reading 1024 512)) out
+    pub pulls_none : (out : List ℕ) → call_of (open4 Closed) (Pull out) ≡ reply 0 false 0 out (open4 Closed)
+    pub feeds_one : (piece : List ℕ) → call_of (open4 (writing 0 512)) (Feed piece) ≡ feed_by (writing 0 512) (open4 (writing 0 512)) piece
     pub feeds : (piece : List ℕ) → call_of (open4 (writing 0 1024)) (Feed piece) ≡ feed_by (writing 0 1024) (open4 (writing 0 1024)) piece
-    pub feeds-on : (piece : List ℕ) → call_of (open4 (writing 1 1023)) (Feed piece) ≡ feed_by (writing 1 1023) (open4 (writing 1 1023)) piece
+    pub feeds_on : (piece : List ℕ) → call_of (open4 (writing 1 1023)) (Feed piece) ≡ feed_by (writing 1 1023) (open4 (writing 1 1023)) piece
     pub feeds_list : (piece : List ℕ) → call_of (open4 listing) (Feed piece) ≡ feed_by listing (open4 listing) piece
 
   module _ (b : length w.buffer ≡ buffer_bytes) (d : length disc ≡ 32768) where
@@ -138,27 +139,27 @@ module _ (w : World) (disc : List ℕ) where
           inserts = rw d;
           refuses = refl;
           inquires = rw (b, d);
-          inquires-here = rw (b, d);
-          inquires-elsewhere = rw (b, d);
-          unknown-fails = rw (b, d);
+          inquires_here = rw (b, d);
+          inquires_elsewhere = rw (b, d);
+          unknown_fails = rw (b, d);
           tells = λ sense named. rw (b, d, named);
           tests = λ sense named. rw (b, d, named);
-          inquiry-passes = refl;
-          elsewhere-passes = refl;
-          test-fails = refl;
-          test-passes = refl;
-          reads-third = rw (b, d);
+          inquiry_passes = refl;
+          elsewhere_passes = refl;
+          test_fails = refl;
+          test_passes = refl;
+          reads_third = rw (b, d);
           reads_two = rw (b, d);
           reads_three = rw (b, d);
           writes = rw (b, d);
           formats = rw (b, d);
           pulls_answer = λ byte out. rw (length-drop 1 w.buffer, b, d);
           pulls = λ out. rw (b, d);
-          pulls-third = λ out. rw (b, d);
-          pulls-none = λ out. rw (b, d);
-          feeds-one = λ piece. rw (b, d);
+          pulls_third = λ out. rw (b, d);
+          pulls_none = λ out. rw (b, d);
+          feeds_one = λ piece. rw (b, d);
           feeds = λ piece. rw (b, d);
-          feeds-on = λ piece. rw (b, d);
+          feeds_on = λ piece. rw (b, d);
           feeds_list = λ piece. rw (b, d);
         }
 
@@ -167,18 +168,18 @@ module _ (w : World) (disc : List ℕ) where
     unfolding sound_b named_b format_of block_bytes run_bytes disc_bytes
     ready4 change t e = record { sound = rw e; buffer = b; disc = d }
 
-    pub ready-closed : (change : Bool) → Ready (with4 change no_sense Closed)
+    pub ready_closed : (change : Bool) → Ready (with4 change no_sense Closed)
     unfolding open_sound_b
-    ready-closed change = ready4 change Closed refl
+    ready_closed change = ready4 change Closed refl
 
-    pub ready-reading : Ready (open4 (reading 0 512))
+    pub ready_reading : Ready (open4 (reading 0 512))
     unfolding open_sound_b on_disc_b format_of block_bytes run_bytes disc_bytes
-    ready-reading = ready4 false (reading 0 512) refl
+    ready_reading = ready4 false (reading 0 512) refl
 
-    pub ready-writing : Ready (open4 (writing 0 1024))
+    pub ready_writing : Ready (open4 (writing 0 1024))
     unfolding open_sound_b on_disc_b ends_on_block_b format_of block_bytes run_bytes disc_bytes
-    ready-writing = ready4 false (writing 0 1024) refl
+    ready_writing = ready4 false (writing 0 1024) refl
 
-    pub ready-listing : Ready (open4 listing)
+    pub ready_listing : Ready (open4 listing)
     unfolding open_sound_b list_sound_b format_of
-    ready-listing = ready4 false listing refl
+    ready_listing = ready4 false listing refl

@@ -1,5 +1,6 @@
 -- What a command opens is what the ledger takes and gives from then on. Assumes nothing.
-use Rattle.ground.specs.Kit.{◌≡◌, refl, sym, ap, subst, ◌∙◌, Bool, true, false, cond, List, [], flatten, ℕ, ◌+◌, ◌*◌, ◌/◌, ◌%◌, ◌≤◌, min, add-zero, arith, leb-true, leb-false, eqb, leb, lit≤, length, take, drop, length-drop, length-take-le, set, take_all, take_at}
+use Rattle.std.specs.Prelude.{◌≡◌, ◌+◌, ◌*◌, ◌/◌, ◌%◌, ◌≤◌}
+use Rattle.ground.specs.Kit.{refl, sym, ap, subst, ◌∙◌, Bool, true, false, cond, List, [], flatten, ℕ, min, add-zero, arith, leb-true, leb-false, eqb, leb, lit≤, length, take, drop, length-drop, length-take-le, set, take_all, take_at}
 use Rattle.state.specs.declared.{Media.Media, ListAt.ListAt, Transfer.Transfer}
 use Rattle.packet.specs.declared.{Rule.Rule, Answering.Answering, Routine.Routine}
 use Rattle.checks.specs.declared.{Verdict.Verdict}
@@ -130,13 +131,13 @@ module _ (w : World) (l : Ledger) (a : Agrees w l) where
         }
 
     -- and its blocks are on the disc
-    pub agrees-routine : (r : Routine) → (opens_b r ≡ true → number ≡ 0 → ⊥)
+    pub agrees_routine : (r : Routine) → (opens_b r ≡ true → number ≡ 0 → ⊥)
         → (opens_b r ≡ true → (place_of number (address_of p)).0 + run_bytes number n ≤ length w.disc)
         → Agrees (routine_of r w p n) (opened r l (told l.host no_sense) p n)
     unfolding span_of
-    agrees-routine Nothing is_in_lem within = by_passing w.state.motor Closed w.buffer l.stored 0 [] none refl (λ _. refl) (shut _ _ _ _)
-    agrees-routine Motor is_in_lem within = by_passing (eqb (byte_at p 4 % 2) 1) Closed w.buffer l.stored 0 [] none refl (λ _. refl) (shut _ _ _ _)
-    agrees-routine (Answer x) is_in_lem within =
+    agrees_routine Nothing is_in_lem within = by_passing w.state.motor Closed w.buffer l.stored 0 [] none refl (λ _. refl) (shut _ _ _ _)
+    agrees_routine Motor is_in_lem within = by_passing (eqb (byte_at p 4 % 2) 1) Closed w.buffer l.stored 0 [] none refl (λ _. refl) (shut _ _ _ _)
+    agrees_routine (Answer x) is_in_lem within =
         let m = w.state.media in
         let sense = w.state.host.sense in
         let f = give_of x m sense p n w.buffer in
@@ -149,7 +150,7 @@ module _ (w : World) (l : Ledger) (a : Agrees w l) where
           gathered = tt;
           listed = refl;
         })
-    agrees-routine Read is_in_lem within =
+    agrees_routine Read is_in_lem within =
         let far = within refl in
         let rest = drop (place_of number (address_of p)).0 w.disc in
         by_passing w.state.motor (ReadFrom (span_of number (address_of p) n)) w.buffer l.stored 0 _ none refl (λ _. refl)
@@ -160,7 +161,7 @@ module _ (w : World) (l : Ledger) (a : Agrees w l) where
           gathered = tt;
           listed = refl;
         })
-    agrees-routine Write is_in_lem within =
+    agrees_routine Write is_in_lem within =
         let span = span_of number (address_of p) n in
         by_passing w.state.motor (WriteTo span) w.buffer (store l.stored.blocks (address_of p) []) (run_bytes l.media.disc n) [] none refl (λ _. refl)
         (record {
@@ -170,7 +171,7 @@ module _ (w : World) (l : Ledger) (a : Agrees w l) where
           gathered = write-starts (is_in_lem refl);
           listed = refl;
         })
-    agrees-routine ParameterList is_in_lem within =
+    agrees_routine ParameterList is_in_lem within =
         let from : ListAt = record { track = byte_at p 2; left = list_bytes } in
         by_passing w.state.motor (ListFor from) w.buffer l.stored 12 [] (list (byte_at p 2) []) refl (λ z. absurd (omega (arith, z)))
         (record { taking = refl; giving = refl; all = refl; gathered = tt; listed = refl })
@@ -188,7 +189,7 @@ module _ (w : World) (l : Ledger) (a : Agrees w l) (ready : Ready w) (p : List �
     performs : Agrees (performed_of rule w p) (noting no_sense)
     unfolding performed_of place_of
     performs =
-        agrees-routine w l a ready p (length_of rule.length p) rule.routine (disc_in all)
+        agrees_routine w l a ready p (length_of rule.length p) rule.routine (disc_in all)
         (λ opens. rw ready.disc (run_within w.state.media.disc (address_of p).0 (length_of rule.length p) (in_range all opens)))
 
   by_verdict : (v : Verdict) → verdict w.state.media w.state.host p ≡ v → Agrees (reply_to v w p).world (noted l (Command p) (reply_to v w p).heard)

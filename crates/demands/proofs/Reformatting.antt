@@ -1,5 +1,6 @@
 -- A disc that is formatted is the ledger's blocks that are. Assumes nothing.
-use Rattle.ground.specs.Kit.{◌≡◌, refl, sym, ap, ◌∙◌, Bool, true, false, List, [], ◌∷◌, ◌++◌, append_assoc, cond, not, ◌||◌, flatten, ℕ, suc, ◌+◌, ◌*◌, ◌/◌, ◌≤◌, ◌<◌, zero-mul, suc-mul, add-zero, add_comm, add-mul, le_refl, arith, eqb, lt-leb, le-leb, lt-ltb, le-ltb, length, take, drop, length-drop, length-take-le, length-replicate, replicate, replicate-append-replicate, take-append-drop, drop-drop, mul-le-mul_right, sets, sets-eq}
+use Rattle.std.specs.Prelude.{◌≡◌, ◌∷◌, ◌++◌, ◌||◌, ◌+◌, ◌*◌, ◌/◌, ◌≤◌, ◌<◌}
+use Rattle.ground.specs.Kit.{refl, sym, ap, ◌∙◌, Bool, true, false, List, [], append_assoc, cond, not, flatten, ℕ, suc, zero-mul, suc-mul, add-zero, add_comm, add-mul, le_refl, arith, eqb, lt-leb, le-leb, lt-ltb, le-ltb, length, take, drop, length-drop, length-take-le, length-replicate, replicate, replicate-append-replicate, take-append-drop, drop-drop, mul-le-mul_right, sets, sets-eq}
 use Rattle.ground.proofs.Parts.{flatten_append}
 use Rattle.disc.specs.Formats.{format_of, block_bytes, run_bytes, place_of}
 use Rattle.disc.proofs.Discs.{track_holds}

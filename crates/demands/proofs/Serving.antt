@@ -1,5 +1,6 @@
 -- What one feed or pull moves: the first bytes of what is lent, as many as the open transfer has left. Assumes nothing.
-use Rattle.ground.specs.Kit.{◌≡◌, refl, sym, ap, ◌∙◌, Bool, true, false, List, [], ◌∷◌, ◌++◌, append_assoc, append-nil, ℕ, ◌+◌, ◌-◌, ◌<◌, min, add-zero, sub-zero, arith, eqb-true, eqb, length, take, drop, take-append-add, drop-append-add, take-length, drop-length, take-add, drop-drop}
+use Rattle.std.specs.Prelude.{◌≡◌, ◌∷◌, ◌++◌, ◌+◌, ◌-◌, ◌<◌}
+use Rattle.ground.specs.Kit.{refl, sym, ap, ◌∙◌, Bool, true, false, List, [], append_assoc, append-nil, ℕ, min, add-zero, sub-zero, arith, eqb-true, eqb, length, take, drop, take-append-add, drop-append-add, take-length, drop-length, take-add, drop-drop}
 use Rattle.state.specs.declared.{Media.Media, State.State, AnswerAt.AnswerAt, DiscAt.DiscAt, ListAt.ListAt, Transfer.Transfer}
 use Rattle.disc.specs.Formats.{block_bytes}
 use Rattle.state.specs.States.{left_of, closed_at_zero, moved_of}

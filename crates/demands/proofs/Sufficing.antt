@@ -1,9 +1,9 @@
 -- With demand 1 the account says all that demand 2 does. Assumes nothing.
-use Rattle.ground.specs.Kit.{◌≡◌, refl, sym, ap, ◌∙◌, Bool, ◌||◌, List, [], ◌∷◌, get_or, drop}
-use Rattle.house.specs.World.{World, Heard, heard}
+use Rattle.std.specs.Prelude.{◌≡◌, ◌||◌, ◌∷◌}
+use Rattle.ground.specs.Kit.{refl, sym, ap, ◌∙◌, Bool, List, [], get_or, drop}
+use Rattle.house.specs.World.{World, Heard}
 use Rattle.drive.specs.Calls.{Call, Insert, Command}
 use Rattle.demands.specs.Device.{Device, after, drive}
-use Rattle.demands.specs.Answered.{Answered}
 use Rattle.demands.specs.Faithful.{answers_b, some_answers_b}
 use Rattle.demands.specs.Together.{heard_in, AccountSuffices}
 use Rattle.demands.proofs.Answered.{answered}

@@ -1,5 +1,6 @@
 -- Each wrong device breaks demand 2. Assumes nothing.
-use Rattle.ground.specs.Kit.{◌≡◌, refl, sym, ap, ◌∙◌, true, false, true≢false, false≢true, List, [], ◌∷◌, ◌++◌, flatten, ℕ, suc, ◌<◌, ◌+◌, arith, eq-eqb, ne_eqb, length, get_or, set, replicate, length-replicate, length-append, take_all, append_snoc}
+use Rattle.std.specs.Prelude.{◌≡◌, ◌∷◌, ◌++◌, ◌<◌, ◌+◌}
+use Rattle.ground.specs.Kit.{refl, sym, ap, ◌∙◌, true, false, true≢false, false≢true, List, [], flatten, ℕ, suc, arith, eq-eqb, ne_eqb, length, get_or, set, replicate, length-replicate, length-append, take_all, append_snoc}
 use Rattle.disc.specs.declared.{BlockAddress.BlockAddress}
 use Rattle.state.specs.declared.{Sense.Sense}
 use Rattle.disc.specs.Formats.{buffer_bytes, format_of, block_bytes, run_bytes, disc_bytes}
@@ -42,7 +43,7 @@ use Rattle.demands.specs.Wrong.{
 }
 use Rattle.demands.proofs.Foretelling.{foretold_accepted}
 use Rattle.demands.proofs.WrongLists.{formats_at_once_lem, fills_zeros_lem, formats_all_lem, formats_immediate_lem, judges_early_lem}
-use Rattle.demands.proofs.OnDisc4.{fed_count, pulled_bytes, test, inquiry, inquiry_at, unknown, write, reading, writing, without, with4, open4, Ours, ours, ready-closed, ready-reading, ready-writing}
+use Rattle.demands.proofs.OnDisc4.{fed_count, pulled_bytes, test, inquiry, inquiry_at, unknown, write, reading, writing, without, with4, open4, Ours, ours, ready_closed, ready_reading, ready_writing}
 
 -- a list that starts with 0 is none that starts with another number
 starts_otherwise : {l k : List ℕ} {n : ℕ} → l ≡ k → get_or l 0 0 ≡ 0 → get_or k 0 0 ≡ suc n → ⊥
@@ -83,20 +84,20 @@ module _ (v : World) (rest : List ℕ) (b : length v.buffer ≡ buffer_bytes) (d
   fails_everything_lem : (says : World → List ℕ → Sense) → Judges (fails_everything says) → ⊥
   fails_everything_lem says f =
       let one = (rw our.inquires at (f (with4 v disc true no_sense Closed) inquiry)) refl in
-      false≢true (ap (λ (j : Judged). j.passed) one ∙ our.inquiry-passes)
+      false≢true (ap (λ (j : Judged). j.passed) one ∙ our.inquiry_passes)
 
   -- INQUIRY to unit 7 passes
   fails_another_unit_lem : Judges fails_another_unit → ⊥
   fails_another_unit_lem f =
-      let one = (rw our.inquires-elsewhere at (f (open4 v disc Closed) (inquiry_at 7))) refl in
-      false≢true (ap (λ (j : Judged). j.passed) one ∙ our.elsewhere-passes)
+      let one = (rw our.inquires_elsewhere at (f (open4 v disc Closed) (inquiry_at 7))) refl in
+      false≢true (ap (λ (j : Judged). j.passed) one ∙ our.elsewhere_passes)
 
   -- TEST UNIT READY tells the change
   passes_everything_lem : Judges passes_everything → ⊥
   unfolding named_b
   passes_everything_lem f =
       let one = (rw (our.tells no_sense refl) at (f (with4 v disc true no_sense Closed) test)) refl in
-      true≢false (ap (λ (j : Judged). j.passed) one ∙ our.test-fails)
+      true≢false (ap (λ (j : Judged). j.passed) one ∙ our.test_fails)
 
   -- ---- the announcement
 
@@ -122,8 +123,8 @@ module _ (v : World) (rest : List ℕ) (b : length v.buffer ≡ buffer_bytes) (d
   unknown_code_clears_lem : Announces unknown_code_clears → ⊥
   unfolding named_b
   unknown_code_clears_lem =
-      silent unknown_code_clears (Command unknown ∷ []) unknown_code (rw our.inserts) (rw (our.inserts, our.unknown-fails))
-      (rw (our.inserts, after, our.unknown-fails))
+      silent unknown_code_clears (Command unknown ∷ []) unknown_code (rw our.inserts) (rw (our.inserts, our.unknown_fails))
+      (rw (our.inserts, after, our.unknown_fails))
       (rw (our.tests unknown_code refl))
 
   -- ---- the account, from a ready world
@@ -131,65 +132,65 @@ module _ (v : World) (rest : List ℕ) (b : length v.buffer ≡ buffer_bytes) (d
   -- a pull counts a byte with nothing coming
   makes_up_counts_lem : Accounts makes_up_counts → ⊥
   makes_up_counts_lem f =
-      let gave = (rw (our.pulls-none (0 ∷ [])) at (pulled_bytes (f.ready (open4 v disc Closed) [] (ready-closed v disc b (rw d) false)) (0 ∷ []))) refl in
+      let gave = (rw (our.pulls_none (0 ∷ [])) at (pulled_bytes (f.ready (open4 v disc Closed) [] (ready_closed v disc b (rw d) false)) (0 ∷ []))) refl in
       omega (arith, gave.0)
 
   -- the change is told again, where TEST UNIT READY is to pass
   never_ready_lem : Accounts never_ready → ⊥
   unfolding noted named_b
   never_ready_lem f =
-      let a = rw (our.tells no_sense refl) at (f.ready (with4 v disc true no_sense Closed) (Command test ∷ []) (ready-closed v disc b (rw d) true)) in
+      let a = rw (our.tells no_sense refl) at (f.ready (with4 v disc true no_sense Closed) (Command test ∷ []) (ready_closed v disc b (rw d) true)) in
       let told = foretold_accepted _ _ (Command test) _ (rw (our.tells change_told refl) at (a.hears (Command test))) refl in
-      false≢true (ap (λ (h : Heard). h.passed) told ∙ our.test-passes)
+      false≢true (ap (λ (h : Heard). h.passed) told ∙ our.test_passes)
 
   -- unit 7 is none, 1F
   answers_for_all_lem : Accounts answers_for_all → ⊥
   unfolding noted rules rule_of length_of answer_of allocation_of inquiry_data
   answers_for_all_lem f =
-      let a = rw (our.inquires-elsewhere, our.inquires-here) at (f.ready (open4 v disc Closed) (Command (inquiry_at 7) ∷ []) (ready-closed v disc b (rw d) false)) in
+      let a = rw (our.inquires_elsewhere, our.inquires_here) at (f.ready (open4 v disc Closed) (Command (inquiry_at 7) ∷ []) (ready_closed v disc b (rw d) false)) in
       starts_otherwise ((rw (our.pulls_answer 0x00 (0 ∷ [])) at (pulled_bytes a (0 ∷ []))) refl).1 refl refl
 
   -- a 7 is read
   hands_out_zeros_lem : Accounts hands_out_zeros → ⊥
   hands_out_zeros_lem f =
-      let a = f.ready (open4 v disc (reading 0 512)) [] (ready-reading v disc b (rw d)) in
+      let a = f.ready (open4 v disc (reading 0 512)) [] (ready_reading v disc b (rw d)) in
       starts_otherwise ((rw (our.pulls (0 ∷ [])) at (pulled_bytes a (0 ∷ []))) refl).1 refl refl
 
   -- the second pull gives nothing
   first_pull_only_lem : Accounts first_pull_only → ⊥
   unfolding noted moved_of
   first_pull_only_lem f =
-      let a = rw (our.pulls (0 ∷ [])) at (f.ready (open4 v disc (reading 0 512)) (Pull (0 ∷ []) ∷ []) (ready-reading v disc b (rw d))) in
-      let gave = (rw (our.pulls-none (0 ∷ [])) at (pulled_bytes a (0 ∷ []))) refl in
+      let a = rw (our.pulls (0 ∷ [])) at (f.ready (open4 v disc (reading 0 512)) (Pull (0 ∷ []) ∷ []) (ready_reading v disc b (rw d))) in
+      let gave = (rw (our.pulls_none (0 ∷ [])) at (pulled_bytes a (0 ∷ []))) refl in
       omega (arith, gave.0)
 
   -- nor does one after a refused insertion
   closes_at_refusal_lem : Accounts closes_at_refusal → ⊥
   unfolding noted
   closes_at_refusal_lem f =
-      let a = rw our.refuses at (f.ready (open4 v disc (reading 0 512)) (Insert 4 false disc ∷ []) (ready-reading v disc b (rw d))) in
-      let gave = (rw (our.pulls-none (0 ∷ [])) at (pulled_bytes a (0 ∷ []))) refl in
+      let a = rw our.refuses at (f.ready (open4 v disc (reading 0 512)) (Insert 4 false disc ∷ []) (ready_reading v disc b (rw d))) in
+      let gave = (rw (our.pulls_none (0 ∷ [])) at (pulled_bytes a (0 ∷ []))) refl in
       omega (arith, gave.0)
 
   -- of 513 bytes fed, 512 are taken
   first_block_only_lem : (piece : List ℕ) → length piece ≡ 513 → Accounts first_block_only → ⊥
   unfolding noted rules rule_of address_of length_of format_of block_bytes run_bytes
   first_block_only_lem piece l f =
-      let a = rw our.writes at (f.ready (open4 v disc Closed) (Command write ∷ []) (ready-closed v disc b (rw d) false)) in
-      omega (arith, (rw (our.feeds-one piece) at (fed_count a piece)) refl, l)
+      let a = rw our.writes at (f.ready (open4 v disc Closed) (Command write ∷ []) (ready_closed v disc b (rw d) false)) in
+      omega (arith, (rw (our.feeds_one piece) at (fed_count a piece)) refl, l)
 
   -- the one byte that is fed is on the disc
   version_three_lem : Accounts version_three → ⊥
   unfolding flatten noted format_of block_bytes
   version_three_lem f =
-      let a = f.ready (open4 v disc (writing 0 1024)) (Feed (0 ∷ []) ∷ []) (ready-writing v disc b (rw d)) in
+      let a = f.ready (open4 v disc (writing 0 1024)) (Feed (0 ∷ []) ∷ []) (ready_writing v disc b (rw d)) in
       starts_otherwise {k = flatten (blocks_of 512 64 disc)} ((rw (our.feeds (0 ∷ [])) at a.holds) (λ e. omega arith)) refl refl
 
   -- the block that is fed is not
   discards_feeds_lem : (piece : List ℕ) → length piece ≡ 511 → Accounts discards_feeds → ⊥
   unfolding flatten noted format_of block_bytes
   discards_feeds_lem piece l f =
-      let a = f.ready (open4 v disc (writing 0 1024)) (Feed (0 ∷ piece) ∷ []) (ready-writing v disc b (rw d)) in
+      let a = f.ready (open4 v disc (writing 0 1024)) (Feed (0 ∷ piece) ∷ []) (ready_writing v disc b (rw d)) in
       let whole = gather_whole 512 (blocks_of 512 64 disc) (record { 0 = 0 }) [] (0 ∷ piece) (omega arith) (omega arith) in
       starts_otherwise (sym ((rw (our.feeds (0 ∷ piece), l, take_all 511 piece (omega arith), whole) at a.holds) (λ e. omega arith))) refl refl
 

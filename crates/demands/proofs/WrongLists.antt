@@ -1,5 +1,6 @@
 -- Devices that make something else of a FORMAT UNIT or of its list break demand 2: they leave another disc than ours. Assumes nothing.
-use Rattle.ground.specs.Kit.{◌≡◌, refl, sym, ap, ◌∙◌, false, List, [], ◌∷◌, ℕ, suc, ◌<◌, zero-mul, arith, lit≤, length, get_or, replicate, set, sets}
+use Rattle.std.specs.Prelude.{◌≡◌, ◌∷◌, ◌<◌}
+use Rattle.ground.specs.Kit.{refl, sym, ap, ◌∙◌, false, List, [], ℕ, zero, suc, zero-mul, arith, lit≤, length, get_or, replicate, set, sets}
 use Rattle.ground.specs.Bytes.{zeros}
 use Rattle.disc.specs.Formats.{format_of, block_bytes, run_bytes, place_of}
 use Rattle.state.specs.declared.Transfer.TheVariants.{Closed}
@@ -14,7 +15,7 @@ use Rattle.demands.specs.Ledger.{ledger_of, noted}
 use Rattle.demands.specs.Faithful.{Accounts}
 use Rattle.demands.specs.Wrong.{formats_at_once, fills_zeros, formats_all, formats_immediate, judges_early}
 use Rattle.demands.proofs.Faithful.{faithful}
-use Rattle.demands.proofs.OnDisc4.{format, listing, open4, Ours, ours, ready-closed, ready-listing}
+use Rattle.demands.proofs.OnDisc4.{format, listing, open4, Ours, ours, ready_closed, ready_listing}
 
 -- a device that keeps the account leaves the disc that ours leaves
 same_disc : {d : Device} → Accounts d → (w : World) → Ready w → (c : Call)
@@ -31,6 +32,7 @@ first_kept (v ∷ vs) [] at = first_kept vs [] (suc at)
 first_kept (v ∷ vs) (x ∷ l) at = first_kept vs (x ∷ set l at v) (suc at)
 
 first_set : (n v x : ℕ) (l : List ℕ) → 0 < n → get_or (sets (x ∷ l) 0 (replicate n v)) 0 0 ≡ v
+first_set zero v x l some = elim some [ ]
 first_set (suc n) v x l some = first_kept (replicate n v) (v ∷ l) 0
 
 -- where the first 64 blocks of disc 4 are filled
@@ -47,6 +49,7 @@ first_filled v x l = rw first_place (first_set (run_bytes 4 64) v x l some_bytes
 
 -- and where the 8 blocks of side 0 of track 3 are
 behind : (vs l : List ℕ) (at : ℕ) → 0 < at → get_or (sets l at vs) 0 0 ≡ get_or l 0 0
+behind vs l zero some = elim some [ ]
 behind vs l (suc at) some = first_kept vs l at
 
 track_place : 0 < (place_of 4 (record { 0 = 48 })).0
@@ -89,12 +92,12 @@ module _ (rest : List ℕ) (d : length rest ≡ 32767) where
   -- what a device and ours leave, when the list is fed that is open
   fed : {d : Device} → Accounts d → (piece : List ℕ) → ((noted (ledger_of opened) (Feed piece) (call_of opened (Feed piece)).heard).media.disc ≡ 0 → ⊥)
       → (d.call opened (Feed piece)).world.disc ≡ (call_of opened (Feed piece)).world.disc
-  fed f piece = same_disc f opened (ready-listing v disc refl (rw d)) (Feed piece)
+  fed f piece = same_disc f opened (ready_listing v disc refl (rw d)) (Feed piece)
 
   pub formats_at_once_lem : Accounts formats_at_once → ⊥
   unfolding noted rules rule_of
   formats_at_once_lem f =
-      let e = same_disc f (open4 v disc Closed) (ready-closed v disc refl (rw d) false) (Command format) (rw our.formats (λ z. omega arith)) in
+      let e = same_disc f (open4 v disc Closed) (ready_closed v disc refl (rw d) false) (Command format) (rw our.formats (λ z. omega arith)) in
       apart (rw our.formats at e) 0xf6 7 refl refl (λ z. omega arith)
 
   pub fills_zeros_lem : Accounts fills_zeros → ⊥

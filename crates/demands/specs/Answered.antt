@@ -1,5 +1,6 @@
 -- Demand 1: "Any packet, state, event and lent buffer is answered. No entry relies on a check made by its caller."
-use Rattle.ground.specs.Kit.{◌≡◌, Bool, true, false, List, ℕ}
+use Rattle.std.specs.Prelude.{◌≡◌}
+use Rattle.ground.specs.Kit.{Bool, true, false, List, ℕ}
 use Rattle.state.specs.declared.{Sense.Sense}
 use Rattle.checks.specs.declared.{Verdict.Verdict}
 use Rattle.state.specs.declared.Transfer.TheVariants.{Closed}

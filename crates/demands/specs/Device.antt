@@ -1,5 +1,6 @@
 -- A device as its caller meets it: its reply to every call, and runs of calls.
-use Rattle.ground.specs.Kit.{List, [], ◌∷◌}
+use Rattle.std.specs.Prelude.{◌∷◌}
+use Rattle.ground.specs.Kit.{List, []}
 use Rattle.state.specs.declared.{State.State}
 use Rattle.state.specs.States.{power_on}
 use Rattle.house.specs.World.{World, Reply}

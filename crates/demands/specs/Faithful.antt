@@ -2,7 +2,8 @@
 -- that fails. While only our calls touch the disc, each block read holds the bytes last stored whole or formatted since insertion, else those it
 -- came in with.
 -- After an accepted insertion, while power stays on, only INQUIRY and REQUEST SENSE pass until some command has answered 06 28 00."
-use Rattle.ground.specs.Kit.{◌≡◌, Bool, true, false, cond, not, ◌||◌, List, [], ◌∷◌, ◌++◌, flatten, ℕ, min, eqb, length, take, drop}
+use Rattle.std.specs.Prelude.{◌≡◌, ◌||◌, ◌∷◌, ◌++◌}
+use Rattle.ground.specs.Kit.{Bool, true, false, cond, not, List, [], flatten, ℕ, min, eqb, length, take, drop}
 use Rattle.state.specs.Senses.{triple}
 use Rattle.packet.specs.Rules.{code_of}
 use Rattle.checks.specs.Verdicts.{verdict}

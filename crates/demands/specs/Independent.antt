@@ -1,6 +1,7 @@
 -- A device that breaks demand 1 and meets 2 and 3; one that breaks demand 2 and meets 1 and every cutting of 3; one that breaks a cutting of
 -- demand 3 and meets 1 and 2. And what the cuttings alone exclude.
-use Rattle.ground.specs.Kit.{false, cond, ◌&&◌, List, [], ◌∷◌, ℕ, eqb, take, set}
+use Rattle.std.specs.Prelude.{◌&&◌, ◌∷◌}
+use Rattle.ground.specs.Kit.{false, cond, List, [], ℕ, eqb, take, set}
 use Rattle.state.specs.Senses.{out_of_range}
 use Rattle.state.specs.States.{power_on}
 use Rattle.sound.specs.Soundness.{sound_b}

@@ -1,5 +1,6 @@
 -- The ledger: an account that is blank at power-on, or read off a drive once, and from then on kept from the calls and from what was heard.
-use Rattle.ground.specs.Kit.{Bool, true, false, cond, not, ◌&&◌, ◌||◌, List, [], ◌∷◌, ◌++◌, flatten, ℕ, zero, suc, ◌+◌, ◌*◌, ◌-◌, ◌/◌, ◌%◌, eqb, length, take, drop, replicate, set}
+use Rattle.std.specs.Prelude.{◌&&◌, ◌||◌, ◌∷◌, ◌++◌, ◌+◌, ◌*◌, ◌-◌, ◌/◌, ◌%◌}
+use Rattle.ground.specs.Kit.{Bool, true, false, cond, not, List, [], flatten, ℕ, zero, suc, eqb, length, take, drop, replicate, set}
 use Rattle.disc.specs.declared.{BlockAddress.BlockAddress}
 use Rattle.state.specs.declared.{Sense.Sense, Media.Media, Host.Host, State.State, Transfer.Transfer}
 use Rattle.packet.specs.declared.{Known.Known, Routine.Routine}

@@ -1,5 +1,6 @@
 -- The customer's three demands of a device, and that they leave nothing open that a caller can hear. proofs/Together: our drive meets them.
-use Rattle.ground.specs.Kit.{◌≡◌, Bool, List, [], ◌∷◌}
+use Rattle.std.specs.Prelude.{◌≡◌, ◌∷◌}
+use Rattle.ground.specs.Kit.{Bool, List, []}
 use Rattle.state.specs.States.{state_of}
 use Rattle.house.specs.World.{World, in_state, Heard}
 use Rattle.house.specs.Theorems.{Ready}

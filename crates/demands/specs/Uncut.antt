@@ -2,7 +2,8 @@
 -- between, gives the same counts in sum, bytes, disc, block buffer and state. A READ or WRITE of at least one block that passes and is
 -- carried through may be cut into consecutive commands of its own code, alike but for address and length, of one or more blocks, each
 -- carried through with no event between: all pass, with the same bytes, disc, block buffer and end state."
-use Rattle.ground.specs.Kit.{◌≡◌, Bool, true, false, ◌&&◌, ◌||◌, List, [], ◌∷◌, ◌++◌, flatten, ℕ, ◌+◌, ◌≤◌, eqb, length, take}
+use Rattle.std.specs.Prelude.{◌≡◌, ◌&&◌, ◌||◌, ◌∷◌, ◌++◌, ◌+◌, ◌≤◌}
+use Rattle.ground.specs.Kit.{Bool, true, false, List, [], flatten, ℕ, eqb, length, take}
 use Rattle.disc.specs.declared.{BlockAddress.BlockAddress}
 use Rattle.packet.specs.declared.{Field.Field, Rule.Rule}
 use Rattle.disc.specs.Formats.{run_bytes}

@@ -1,5 +1,6 @@
 -- Devices that break a demand, each ours but for one thing; proofs/Wrong refutes them.
-use Rattle.ground.specs.Kit.{◌≡◌, Bool, true, false, cond, not, ◌&&◌, List, [], ◌∷◌, ◌++◌, ℕ, ◌+◌, ◌-◌, min, eqb, length, take, drop, replicate, set, sets}
+use Rattle.std.specs.Prelude.{◌≡◌, ◌&&◌, ◌∷◌, ◌++◌, ◌+◌, ◌-◌}
+use Rattle.ground.specs.Kit.{Bool, true, false, cond, not, List, [], ℕ, min, eqb, length, take, drop, replicate, set, sets}
 use Rattle.state.specs.declared.{Sense.Sense, DiscAt.DiscAt, ListAt.ListAt, Transfer.Transfer}
 use Rattle.packet.specs.declared.{Rule.Rule}
 use Rattle.ground.specs.Bytes.{byte_at}

@@ -1,5 +1,6 @@
 -- Paper 01, "Discs".
-use Rattle.ground.specs.Kit.{List, [], ◌∷◌, ℕ, ◌*◌, get_or}
+use Rattle.std.specs.Prelude.{◌∷◌, ◌*◌}
+use Rattle.ground.specs.Kit.{List, [], ℕ, get_or}
 use Rattle.disc.specs.declared.{Format.Format, BlockAddress.BlockAddress, BytePlace.BytePlace}
 
 -- a row: blocks, block bytes, sectors a track, cylinders, rate, rpm, medium type

@@ -1,5 +1,6 @@
 -- Paper 01, "Masks of allowed bits".
-use Rattle.ground.specs.Kit.{List, [], ◌∷◌, ◌++◌, ℕ, suc, ◌-◌, get_or, take, drop, set, replicate}
+use Rattle.std.specs.Prelude.{◌∷◌, ◌++◌, ◌-◌}
+use Rattle.ground.specs.Kit.{List, [], ℕ, suc, get_or, take, drop, set, replicate}
 
 -- "Byte 1 is E0 unless given; bytes not given are 00", "Byte 0 has no mask"
 abbrev none : List ℕ

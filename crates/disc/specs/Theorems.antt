@@ -1,5 +1,6 @@
 -- What the table of discs has to satisfy; proved in proofs/Discs.
-use Rattle.ground.specs.Kit.{◌≡◌, [], ◌∷◌, map, ℕ, ◌+◌, ◌*◌, ◌≤◌, ◌<◌}
+use Rattle.std.specs.Prelude.{◌≡◌, ◌∷◌, ◌+◌, ◌*◌, ◌≤◌, ◌<◌}
+use Rattle.ground.specs.Kit.{[], map, ℕ}
 use Rattle.disc.specs.Formats.{format_of, heads, buffer_bytes, block_bytes, disc_bytes}
 
 -- the column "disc bytes", and 0 for no disc

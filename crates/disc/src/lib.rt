@@ -1,20 +1,22 @@
 // The constant tables: the discs by number and, beside them, the masks of the base commands by row; and the two kinds of number.
-ghost use Rattle.ground.specs.Kit.{◌≡◌};
+#![tactic(auto)]
+
+ghost use Rattle.std.specs.Prelude.{◌≡◌};
 ghost use Rattle.disc.specs.Formats.{format_of, block_bytes, disc_bytes, run_bytes, place_of};
 ghost use Rattle.disc.specs.Masks.{mask_row};
 
 // Which block of a disc.
-#[derive(Drop)]
+#[derive(Clone, Copy)]
 pub struct BlockAddress(pub u32);
 
 // Which byte of a disc.
-#[derive(Drop)]
+#[derive(Clone, Copy)]
 pub struct BytePlace(pub usize);
 
 // The block buffer.
 pub const BUFFER_BYTES: usize = 1024;
 
-#[derive(Drop)]
+#[derive(Clone, Copy)]
 pub struct Format {
     pub blocks: u32,
     pub size: u16,
@@ -98,6 +100,7 @@ const MASKS: [[u8; 12]; 17] = [
 ];
 
 // The row of a disc's number; no disc past the table.
+#[tactic(auto, using(crate::proofs::Discs::past_the_table), unfolding(crate::specs::Formats::format_of))]
 pub fn format_of(number: u8) -> Format
     ensures { result ≡ format_of number }
 {

@@ -1,5 +1,6 @@
 -- Every call is refused by its house number, or accepted; what a proof has to show of it. Assumes nothing.
-use Rattle.ground.specs.Kit.{◌≡◌, refl, sym, ◌∙◌, Bool, true, false, cond, List, [], ℕ, eqb, length}
+use Rattle.std.specs.Prelude.{◌≡◌}
+use Rattle.ground.specs.Kit.{refl, sym, ◌∙◌, Bool, true, false, cond, List, [], ℕ, eqb, length}
 use Rattle.state.specs.declared.{State.State}
 use Rattle.checks.specs.declared.{Verdict.Verdict}
 use Rattle.state.specs.States.{inserted_of, ejected_of}

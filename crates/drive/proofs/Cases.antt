@@ -1,5 +1,6 @@
 -- The marked cases at the edges, by computation but for the bytes that are fed. Assumes nothing.
-use Rattle.ground.specs.Kit.{◌≡◌, ◌∙◌, true, false, List, [], map, ℕ, arith, length, take, sets, length-sets, take_all}
+use Rattle.std.specs.Prelude.{◌≡◌}
+use Rattle.ground.specs.Kit.{◌∙◌, true, false, List, [], map, ℕ, arith, length, take, sets, length-sets, take_all}
 use Rattle.state.specs.declared.{State.State}
 use Rattle.disc.specs.Formats.{buffer_bytes, format_of, block_bytes, run_bytes, disc_bytes, place_of}
 use Rattle.disc.specs.Masks.{masks, mask_row}

@@ -1,5 +1,6 @@
 -- What a command leaves: a sound state, what is lent as long as it was, and the flags but for the one that it reports. Assumes nothing.
-use Rattle.ground.specs.Kit.{◌≡◌, refl, sym, Bool, true, false, ◌||◌, List, ℕ, ◌+◌, ◌%◌, ◌≤◌, ◌<◌, lit≤, add-mul, mul-mod_left, mul-zero, arith, not-true, eqb, length}
+use Rattle.std.specs.Prelude.{◌≡◌, ◌||◌, ◌+◌, ◌%◌, ◌≤◌, ◌<◌}
+use Rattle.ground.specs.Kit.{refl, sym, Bool, true, false, List, ℕ, lit≤, add-mul, mul-mod_left, mul-zero, arith, not-true, eqb, length}
 use Rattle.disc.specs.declared.{BlockAddress.BlockAddress}
 use Rattle.state.specs.declared.{AnswerAt.AnswerAt, ListAt.ListAt, Transfer.Transfer}
 use Rattle.packet.specs.declared.{Rule.Rule, Routine.Routine}

@@ -1,5 +1,6 @@
 -- FORMAT UNIT passes with the packet of a track that is on the disc, and with no other. Assumes nothing.
-use Rattle.ground.specs.Kit.{◌≡◌, refl, sym, ap, ◌∙◌, Bool, true, false, cond, false≢true, not, ◌||◌, List, ℕ, ◌/◌, ◌%◌, ◌<◌, arith, bit_and, and_mask, lit≤, lt-ltb, lt-leb, leb-false, eq-eqb, ne_eqb, eqb-true, eqb-false, not-false, eqb, leb, length}
+use Rattle.std.specs.Prelude.{◌≡◌, ◌||◌, ◌/◌, ◌%◌, ◌<◌}
+use Rattle.ground.specs.Kit.{refl, sym, ap, ◌∙◌, Bool, true, false, cond, false≢true, not, List, ℕ, arith, bit_and, and_mask, lit≤, lt-ltb, lt-leb, leb-false, eq-eqb, ne_eqb, eqb-true, eqb-false, not-false, eqb, leb, length}
 use Rattle.state.specs.declared.{Media.Media, Host.Host}
 use Rattle.packet.specs.declared.{Rule.Rule}
 use Rattle.checks.specs.declared.{Verdict.Verdict}

@@ -1,5 +1,6 @@
 -- Which lists are good, which blocks they mean, and what a feed makes of an open list. Assumes nothing.
-use Rattle.ground.specs.Kit.{◌≡◌, refl, ap, ◌∙◌, true, false, true≢false, not, ◌||◌, List, ℕ, ◌+◌, ◌-◌, ◌*◌, ◌/◌, ◌%◌, ◌<◌, min, arith, eqb, leb, ltb, eq-eqb, ne_eqb, eqb-true, eqb-false, not-false, le-leb, lt-ltb, ltb-true, zero-add, length, take}
+use Rattle.std.specs.Prelude.{◌≡◌, ◌||◌, ◌+◌, ◌-◌, ◌*◌, ◌/◌, ◌%◌, ◌<◌}
+use Rattle.ground.specs.Kit.{refl, ap, ◌∙◌, true, false, true≢false, not, List, ℕ, min, arith, eqb, leb, ltb, eq-eqb, ne_eqb, eqb-true, eqb-false, not-false, le-leb, lt-ltb, ltb-true, zero-add, length, take}
 use Rattle.disc.specs.declared.{Format.Format}
 use Rattle.state.specs.declared.{ListAt.ListAt}
 use Rattle.ground.specs.Bytes.{byte_at, word, long as long4}

@@ -1,5 +1,6 @@
 -- While a change is pending, the second command that C is asked of reports it at the latest. Assumes nothing.
-use Rattle.ground.specs.Kit.{◌≡◌, refl, sym, ◌∙◌, Bool, true, false, cond, not, ◌&&◌, or-true, and-true, true≢false, false≢true, List, [], ◌∷◌, ℕ, suc, ◌≤◌, arith, eqb-true, not-true, eqb, lit≤, length}
+use Rattle.std.specs.Prelude.{◌≡◌, ◌&&◌, ◌∷◌, ◌≤◌}
+use Rattle.ground.specs.Kit.{refl, sym, ◌∙◌, Bool, true, false, cond, not, or-true, and-true, true≢false, false≢true, List, [], ℕ, suc, arith, eqb-true, not-true, eqb, lit≤, length}
 use Rattle.state.specs.declared.{Sense.Sense, Media.Media, Host.Host}
 use Rattle.packet.specs.declared.{Rule.Rule, Known.Known}
 use Rattle.checks.specs.declared.{Check.Check}

@@ -1,15 +1,15 @@
 -- A protected disc stays as it is. Assumes nothing.
-use Rattle.ground.specs.Kit.{◌≡◌, refl, sym, ◌∙◌, true, false, not, false≢true, List, ℕ, ap, Bool}
+use Rattle.std.specs.Prelude.{◌≡◌}
+use Rattle.ground.specs.Kit.{refl, sym, ◌∙◌, true, not, false≢true, List, ℕ, ap, Bool}
 use Rattle.packet.specs.declared.{Routine.Routine}
 use Rattle.checks.specs.declared.{Verdict.Verdict}
-use Rattle.state.specs.declared.Transfer.TheVariants.{Write, ParameterList}
+use Rattle.state.specs.declared.Transfer.TheVariants.{Write}
 use Rattle.packet.specs.declared.Routine.TheVariants.{Nothing, Motor, Answer, Read, Write as WriteBlocks, ParameterList as TakeList}
 use Rattle.packet.specs.Fields.{length_of}
 use Rattle.checks.specs.declared.Verdict.TheVariants.{Passes, Fails}
 use Rattle.checks.specs.Verdicts.{verdict}
 use Rattle.sound.proofs.Opened.{writes}
-use Rattle.house.specs.World.{World, Reply}
-use Rattle.house.specs.Theorems.{Ready}
+use Rattle.house.specs.World.{World}
 use Rattle.house.proofs.Houses.{admits}
 use Rattle.commands.specs.Obeying.{routine_of, performed_of, reply_to}
 use Rattle.moves.proofs.Spans.{open_sound, may_list}

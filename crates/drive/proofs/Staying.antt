@@ -1,5 +1,6 @@
 -- Every call keeps soundness, and in a ready world what is lent keeps its lengths. Assumes nothing.
-use Rattle.ground.specs.Kit.{◌≡◌, refl, ◌∙◌, true, List, ℕ, ◌+◌, ◌-◌, min, arith, length, take, length-take-le, length-sets}
+use Rattle.std.specs.Prelude.{◌≡◌, ◌+◌, ◌-◌}
+use Rattle.ground.specs.Kit.{refl, ◌∙◌, true, List, ℕ, min, arith, length, take, length-take-le, length-sets}
 use Rattle.state.specs.declared.{AnswerAt.AnswerAt, DiscAt.DiscAt, ListAt.ListAt}
 use Rattle.disc.specs.Formats.{format_of, block_bytes, run_bytes, disc_bytes}
 use Rattle.disc.proofs.Discs.{block_fits, block_holds}

@@ -1,5 +1,6 @@
 -- A packet and a list have twelve bytes: two that agree in each are equal. Assumes nothing.
-use Rattle.ground.specs.Kit.{◌≡◌, sym, ◌∙◌, true, List, ℕ, eq-eqb, lt-ltb, eqb, eqb-true, length, ext_get_or}
+use Rattle.std.specs.Prelude.{◌≡◌}
+use Rattle.ground.specs.Kit.{sym, ◌∙◌, true, List, ℕ, eq-eqb, lt-ltb, eqb, eqb-true, length, ext_get_or}
 use Rattle.ground.specs.Bytes.{byte_at}
 use Rattle.checks.specs.Verdicts.{below_b}
 use Rattle.checks.proofs.Below.{below_at}

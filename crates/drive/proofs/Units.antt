@@ -1,5 +1,6 @@
 -- INQUIRY to whatever unit, and any other command to a unit that isn't there. Assumes nothing.
-use Rattle.ground.specs.Kit.{◌≡◌, refl, sym, ◌∙◌, Bool, true, false, cond, not, ◌||◌, false≢true, List, ◌∷◌, ◌++◌, ℕ, zero, suc, ◌*◌, ◌/◌, ◌%◌, ◌<◌, min, arith, bit_and, and_mask, not-true, lt-ltb, eq-eqb, ne_eqb, eqb-true, eqb-false, eqb, length, take, drop, set}
+use Rattle.std.specs.Prelude.{◌≡◌, ◌||◌, ◌∷◌, ◌++◌, ◌*◌, ◌/◌, ◌%◌, ◌<◌}
+use Rattle.ground.specs.Kit.{refl, sym, ◌∙◌, Bool, true, false, cond, not, false≢true, List, ℕ, zero, suc, min, arith, bit_and, and_mask, not-true, lt-ltb, eq-eqb, ne_eqb, eqb-true, eqb-false, eqb, take, drop, set}
 use Rattle.state.specs.declared.{Media.Media, Host.Host}
 use Rattle.packet.specs.declared.{Rule.Rule, Known.Known}
 use Rattle.checks.specs.declared.{Verdict.Verdict}

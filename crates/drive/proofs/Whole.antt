@@ -1,12 +1,13 @@
 -- At any cut a block on the disc is all old or all new. Assumes nothing.
-use Rattle.ground.specs.Kit.{◌≡◌, refl, sym, ◌∙◌, Bool, true, false, cond, ◌&&◌, List, [], ◌∷◌, ◌++◌, ℕ, suc, ◌+◌, ◌-◌, ◌*◌, ◌/◌, ◌%◌, ◌≤◌, ◌<◌, min, mod-lt, div-add-mod', mul-mod_left, mul-le-mul_right, lt_of_mul-lt-mul_right, eq_of_mul-eq-mul_right, add-mul, one-mul, arith, eq-eqb, ne_eqb, eqb-true, eqb-false, lt-ltb, le-leb, ltb-true, ltb-false, le-ltb, lt-leb, digits_mod, eqb, leb, ltb, length, take, drop, set, length-set, paste, length-take-le, length-paste, take_at, take-suc-set, append_snoc, drop-append-add}
+use Rattle.std.specs.Prelude.{◌≡◌, ◌&&◌, ◌∷◌, ◌++◌, ◌+◌, ◌-◌, ◌*◌, ◌/◌, ◌%◌, ◌≤◌, ◌<◌}
+use Rattle.ground.specs.Kit.{refl, sym, ◌∙◌, Bool, true, false, cond, List, [], ℕ, suc, min, mod-lt, div-add-mod', mul-mod_left, mul-le-mul_right, lt_of_mul-lt-mul_right, eq_of_mul-eq-mul_right, add-mul, one-mul, arith, eq-eqb, ne_eqb, eqb-true, eqb-false, lt-ltb, le-leb, ltb-true, ltb-false, le-ltb, lt-leb, digits_mod, eqb, leb, ltb, length, take, drop, set, length-set, paste, length-take-le, length-paste, take_at, take-suc-set, append_snoc, drop-append-add}
 use Rattle.disc.specs.Formats.{block_bytes, run_bytes, place_of}
 use Rattle.ground.proofs.Truth.{both}
 use Rattle.disc.proofs.Discs.{block_fits, block_holds}
 use Rattle.ground.proofs.Parts.{paste_same, paste_before, paste_after}
 use Rattle.moves.proofs.Spans.{may_write}
 use Rattle.feeds.specs.Feeding.{writing, feed_byte, feed_bytes}
-use Rattle.feeds.proofs.Feeding.{at_byte, feed-inside, feed-last}
+use Rattle.feeds.proofs.Feeding.{at_byte, feed_inside, feed_last}
 use Rattle.feeds.proofs.ByTransfer.{feeds_write}
 use Rattle.drive.specs.Theorems.{Room, completes_b, gathered_of, OnlyAtTheLastByte, AllOldOrAllNew, FedAllOldOrAllNew}
 
@@ -68,11 +69,11 @@ module _ (b : ℕ) (pos : 0 < b) where
             ≡ cond (eqb (q * b + j + 1) (end_at b k)) (take b (feed_byte b (writing (at_byte (q * b + j)) buffer disc) x).buffer) (block_at b disc k)
         here false e =
             let inside : j + 1 < b = let d = eqb-false (j + 1) b e in omega arith in
-            rw (feed-inside b q j x buffer disc inside, ne_eqb (q * b + j + 1) (end_at b k) (no_end q j k inside))
+            rw (feed_inside b q j x buffer disc inside, ne_eqb (q * b + j + 1) (end_at b k) (no_end q j k inside))
         here true e =
             let last = eqb-true (j + 1) b e in
             let place : q * b + j + 1 ≡ end_at b q = omega arith in
-            rw (feed-last b q j x buffer disc last, place, ends_alike q k)
+            rw (feed_last b q j x buffer disc last, place, ends_alike q k)
             (block_stored q k disc (set buffer j x) (omega arith) (rw (length-set buffer j x) held))
 
   -- ---- bytes
@@ -139,7 +140,7 @@ module _ (b : ℕ) (pos : 0 < b) where
     whole-inside inside =
         let s : q * b + j + 1 ≡ q * b + suc j = omega arith in
         rw (
-          feed-inside b q j x buffer disc inside,
+          feed_inside b q j x buffer disc inside,
           reaches_next (q * b + j) (length xs) k (no_end q j k inside),
           s,
           ← joined (omega arith),
@@ -166,7 +167,7 @@ module _ (b : ℕ) (pos : 0 < b) where
           let fits : b ≤ length (set buffer j x) = rw (length-set buffer j x) held in
           let long : length stored ≡ length disc = length-paste disc (q * b) (set buffer j x) b (omega arith) fits in
           rw (
-            feed-last b q j x buffer disc last,
+            feed_last b q j x buffer disc last,
             next,
             more (q + 1) 0 (set buffer j x) stored pos fits (omega arith),
             block_stored q k disc (set buffer j x) (omega arith) fits,

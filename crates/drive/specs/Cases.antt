@@ -1,5 +1,6 @@
 -- Paper 01, "Cases at the edges": those marked, in one statement; proved in proofs/Cases.
-use Rattle.ground.specs.Kit.{◌≡◌, Bool, true, false, List, [], ◌∷◌, ◌++◌, map, ℕ, ◌*◌, length, replicate}
+use Rattle.std.specs.Prelude.{◌≡◌, ◌∷◌, ◌++◌, ◌*◌}
+use Rattle.ground.specs.Kit.{Bool, true, false, List, [], map, ℕ, length, replicate}
 use Rattle.state.specs.declared.{Sense.Sense, State.State, Transfer.Transfer}
 use Rattle.disc.specs.Formats.{buffer_bytes}
 use Rattle.state.specs.declared.Transfer.TheVariants.{Closed, Answer, Read}

@@ -1,5 +1,6 @@
 -- Req 03, FORMAT UNIT: what holds of the command, of its list and of the disc; proved in proofs/FormatUnit and proofs/Formatting.
-use Rattle.ground.specs.Kit.{◌≡◌, Bool, true, false, cond, not, ◌&&◌, List, ◌∷◌, ◌++◌, ℕ, ◌+◌, ◌*◌, ◌-◌, ◌/◌, ◌%◌, ◌<◌, ◌≤◌, min, eqb, length, take, replicate, sets}
+use Rattle.std.specs.Prelude.{◌≡◌, ◌&&◌, ◌∷◌, ◌++◌, ◌+◌, ◌*◌, ◌-◌, ◌/◌, ◌%◌, ◌<◌, ◌≤◌}
+use Rattle.ground.specs.Kit.{Bool, true, false, cond, not, List, ℕ, min, eqb, length, take, replicate, sets}
 use Rattle.disc.specs.declared.{BlockAddress.BlockAddress}
 use Rattle.state.specs.declared.{State.State, ListAt.ListAt}
 use Rattle.ground.specs.Bytes.{byte_at, be2, be3, be4}

@@ -1,6 +1,7 @@
 -- What holds of the entries; proved in proofs/Staying, OneReply, Whole, Protected, Commanded, Pending and Units. What holds of every call is stated of any
 -- device, in `demands` specs/Answered.
-use Rattle.ground.specs.Kit.{◌≡◌, Bool, true, false, cond, not, ◌&&◌, ◌||◌, List, [], ◌∷◌, ◌++◌, ℕ, suc, ◌+◌, ◌*◌, ◌-◌, ◌%◌, ◌<◌, ◌≤◌, eqb, leb, ltb, length, take, drop, replicate, set}
+use Rattle.std.specs.Prelude.{◌≡◌, ◌&&◌, ◌||◌, ◌∷◌, ◌++◌, ◌+◌, ◌*◌, ◌-◌, ◌%◌, ◌<◌, ◌≤◌}
+use Rattle.ground.specs.Kit.{Bool, true, false, cond, not, List, [], ℕ, suc, eqb, leb, ltb, length, take, drop, replicate, set}
 use Rattle.disc.specs.declared.{BlockAddress.BlockAddress, BytePlace.BytePlace}
 use Rattle.state.specs.declared.{State.State, DiscAt.DiscAt}
 use Rattle.packet.specs.declared.{Known.Known}

@@ -1,5 +1,6 @@
 -- Rows of words as bytes: they are put byte by byte, and what is put is what the table has. Assumes nothing.
-use Rattle.ground.specs.Kit.{◌≡◌, refl, sym, ap, ◌∙◌, Bool, true, false, cond, not, ◌&&◌, ◌||◌, or-false, List, [], ◌∷◌, ◌++◌, append-nil, ℕ, suc, ◌+◌, ◌<◌, ◌≤◌, add-one, eqb, eqb-true, not-true, length, drop, get_or, drop_of_length-le, drop-cons}
+use Rattle.std.specs.Prelude.{◌≡◌, ◌&&◌, ◌||◌, ◌∷◌, ◌++◌, ◌+◌, ◌<◌, ◌≤◌}
+use Rattle.ground.specs.Kit.{refl, sym, ap, ◌∙◌, Bool, true, false, cond, not, or-false, List, [], append-nil, ℕ, suc, add-one, eqb, eqb-true, not-true, length, drop, get_or, drop_of_length-le, drop-cons}
 use Rattle.ground.specs.Tables.{Entry, find}
 use Rattle.ground.proofs.Tables.{all}
 use Rattle.ground.proofs.Truth.{both}

@@ -1,5 +1,6 @@
 -- No words are missing: of each table one test that antt computes over all of its rows. Assumes nothing.
-use Rattle.ground.specs.Kit.{◌≡◌, refl, sym, ap, ◌∙◌, Bool, true, false, cond, ◌&&◌, ◌||◌, false≢true, ⊎_elim, List, [], ◌∷◌, ℕ, zero, suc, ◌<◌, arith, eq-or-lt_of_le, le_of_suc-le-suc, eqb-true, ltb-true, ltb-false, eqb, ltb, length}
+use Rattle.std.specs.Prelude.{◌≡◌, ◌&&◌, ◌||◌, ◌∷◌, ◌<◌}
+use Rattle.ground.specs.Kit.{refl, sym, ap, ◌∙◌, Bool, true, false, cond, false≢true, ⊎_elim, List, [], ℕ, zero, suc, arith, eq-or-lt_of_le, le_of_suc-le-suc, eqb-true, ltb-true, ltb-false, eqb, ltb, length}
 use Rattle.packet.specs.declared.{Known.Known, Rule.Rule}
 use Rattle.state.specs.declared.{Sense.Sense}
 use Rattle.ground.specs.Tables.{find}

@@ -1,5 +1,6 @@
 -- What comes behind a record that can be told changes no word. Assumes nothing.
-use Rattle.ground.specs.Kit.{◌≡◌, refl, ap, List, [], ◌∷◌, ◌++◌, ℕ, arith}
+use Rattle.std.specs.Prelude.{◌≡◌, ◌∷◌, ◌++◌}
+use Rattle.ground.specs.Kit.{refl, ap, List, [], ℕ, arith}
 use Rattle.state.specs.declared.{Sense.Sense}
 use Rattle.record.specs.declared.{Record.Record}
 use Rattle.ground.specs.Bytes.{text}

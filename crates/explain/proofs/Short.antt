@@ -1,5 +1,6 @@
 -- How long an explanation can be: of each table one test that antt computes over all of its rows. Assumes nothing.
-use Rattle.ground.specs.Kit.{◌≡◌, refl, Bool, true, false, cond, not, ◌&&◌, List, [], ◌++◌, ℕ, ◌≤◌, arith, eqb, ltb, leb, le-leb, leb-true, length, length-append}
+use Rattle.std.specs.Prelude.{◌≡◌, ◌&&◌, ◌++◌, ◌≤◌}
+use Rattle.ground.specs.Kit.{refl, Bool, true, false, cond, not, List, [], ℕ, arith, eqb, ltb, leb, le-leb, leb-true, length, length-append}
 use Rattle.disc.specs.declared.{BlockAddress.BlockAddress}
 use Rattle.packet.specs.declared.{Known.Known}
 use Rattle.record.specs.declared.{Record.Record}

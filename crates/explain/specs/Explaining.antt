@@ -1,5 +1,6 @@
 -- What a line of the player means, in words behind it.
-use Rattle.ground.specs.Kit.{◌≡◌, Bool, true, false, cond, not, ◌&&◌, List, [], ◌∷◌, ◌++◌, ℕ, ◌<◌, ◌≤◌, eqb, length, take, drop}
+use Rattle.std.specs.Prelude.{◌≡◌, ◌&&◌, ◌∷◌, ◌++◌, ◌<◌, ◌≤◌}
+use Rattle.ground.specs.Kit.{Bool, true, false, cond, not, List, [], ℕ, eqb, length, take, drop}
 use Rattle.state.specs.declared.{Sense.Sense}
 use Rattle.disc.specs.declared.{BlockAddress.BlockAddress}
 use Rattle.packet.specs.declared.{Known.Known, Rule.Rule}

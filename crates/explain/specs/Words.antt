@@ -1,5 +1,6 @@
 -- The words of an explanation: the names of the commands, why a command failed, why a call was refused.
-use Rattle.ground.specs.Kit.{Bool, cond, not, ◌&&◌, ◌||◌, List, [], ◌∷◌, ◌++◌, ℕ, eqb, ltb}
+use Rattle.std.specs.Prelude.{◌&&◌, ◌||◌, ◌∷◌, ◌++◌}
+use Rattle.ground.specs.Kit.{Bool, cond, not, List, [], ℕ, eqb, ltb}
 use Rattle.state.specs.declared.{Sense.Sense}
 use Rattle.ground.specs.Bytes.{text}
 use Rattle.ground.specs.Tables.{Entry, ◌is◌, find}

@@ -1,7 +1,9 @@
 // What a line of the player means, in words behind it.
+#![tactic(auto)]
+
 mod words;
 
-ghost use Rattle.ground.specs.Kit.{◌≡◌, ◌-◌};
+ghost use Rattle.std.specs.Prelude.{◌≡◌, ◌-◌};
 ghost use Rattle.text.specs.Ink.{ink, put_all};
 ghost use Rattle.record.specs.Records.{record_of};
 ghost use Rattle.explain.specs.Explaining.{refused_text, insertion_text, ejection_text, blocks_text, range_text, base_text, called_text, ended_text, command_text, move_text, fed_text, meaning_of, explained_text};

@@ -1,5 +1,6 @@
 // The words of an explanation, by the operation code, the triple and the house number.
-ghost use Rattle.ground.specs.Kit.{◌≡◌, true, false, cond, [], ◌∷◌};
+ghost use Rattle.std.specs.Prelude.{◌≡◌, ◌∷◌};
+ghost use Rattle.ground.specs.Kit.{true, false, cond, []};
 ghost use Rattle.text.specs.Ink.{ink, put_all};
 ghost use Rattle.explain.specs.Words.{name_text, code_text, sense_text, why_text, house_text, reason_text, row_text};
 

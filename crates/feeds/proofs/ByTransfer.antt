@@ -1,8 +1,8 @@
 -- A feed by the open transfer: what a proof has to show of it. Assumes nothing.
-use Rattle.ground.specs.Kit.{◌≡◌, refl, sym, ◌∙◌, Bool, true, false, List, [], ◌∷◌, ℕ, min, length, take, eqb, eqb-true, eqb-false, tag_of, OneOf, miss}
+use Rattle.std.specs.Prelude.{◌≡◌}
+use Rattle.ground.specs.Kit.{refl, sym, ◌∙◌, Bool, true, false, List, ℕ, min, length, take, eqb, eqb-true, eqb-false}
 use Rattle.state.specs.declared.{DiscAt.DiscAt, ListAt.ListAt, Transfer.Transfer}
 use Rattle.state.specs.declared.Transfer.TheVariants.{Closed, Answer, Read, Write, ParameterList}
-use Rattle.state.specs.contracts.Transfer.{the_type}
 use Rattle.disc.specs.Formats.{format_of}
 use Rattle.state.specs.Senses.{bad_list}
 use Rattle.state.specs.States.{obeyed_of, moved_of}
@@ -78,14 +78,12 @@ module _ (w : World) (piece : List ℕ) where
       (λ _ _. record { house = refl; media = refl; power = refl; change = refl })
       (λ _ _. record { house = refl; media = refl; power = refl; change = refl }))
 
--- what the default of a `match` on the transfer is given, that its tag is none of the others', is enough
-abbrev others : List ℕ
-others = 0 ∷ 1 ∷ 2 ∷ []
-
-pub unfed : (w : World) (piece : List ℕ) (t : Transfer) → OneOf others (tag_of the_type t) → idle w piece ≡ feed_by t w piece
-unfed w piece t k = here (feeding t)
+-- what the default of a `match` on the transfer is given, that it is neither of the others, is enough
+pub unfed : (w : World) (piece : List ℕ) (t : Transfer) → ((p : DiscAt) → t ≡ Write p → ⊥) → ((p : ListAt) → t ≡ ParameterList p → ⊥)
+    → idle w piece ≡ feed_by t w piece
+unfed w piece t no_write no_list = here (feeding t)
   where
     here : Feeding t → idle w piece ≡ feed_by t w piece
     here (idles none same) = sym (same w piece)
-    here (writes p e) = absurd (miss others 3 tt (rw e at k))
-    here (lists p e) = absurd (miss others 4 tt (rw e at k))
+    here (writes p e) = absurd (no_write p e)
+    here (lists p e) = absurd (no_list p e)

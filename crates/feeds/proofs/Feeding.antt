@@ -1,5 +1,6 @@
 -- Laws of feeding: a cut of the bytes anywhere, and the bytes within one block at once. Assumes nothing.
-use Rattle.ground.specs.Kit.{◌≡◌, refl, sym, ap, ◌∙◌, Bool, true, false, cond, List, [], ◌∷◌, ◌++◌, ℕ, suc, ◌<◌, ◌≤◌, ◌+◌, ◌-◌, ◌*◌, ◌/◌, ◌%◌, min, mod-lt, mod-eq_of_lt, div-add-mod', add-zero, mul-mod_left, add_assoc, add-mul, one-mul, arith, eq-eqb, ne_eqb, eqb-true, ltb-true, ltb-false, digits_mod, eqb, ltb, length, take, drop, set, length-set, paste, length-paste, sets, take-add, length-take-le}
+use Rattle.std.specs.Prelude.{◌≡◌, ◌∷◌, ◌++◌, ◌<◌, ◌≤◌, ◌+◌, ◌-◌, ◌*◌, ◌/◌, ◌%◌}
+use Rattle.ground.specs.Kit.{refl, sym, ap, ◌∙◌, Bool, true, false, cond, List, [], ℕ, suc, min, mod-lt, mod-eq_of_lt, div-add-mod', add-zero, mul-mod_left, add_assoc, add-mul, one-mul, arith, eq-eqb, ne_eqb, eqb-true, ltb-true, ltb-false, digits_mod, eqb, ltb, length, take, drop, set, length-set, paste, length-paste, sets, take-add, length-take-le}
 use Rattle.disc.specs.declared.{BytePlace.BytePlace}
 use Rattle.moves.specs.Replies.{onward}
 use Rattle.feeds.specs.Feeding.{Writing, writing, feed_byte, feed_bytes}
@@ -16,18 +17,18 @@ module _ (b : ℕ) where
   -- ---- one byte, j its place within block q
 
   module _ (q j x : ℕ) (buffer disc : List ℕ) where
-    pub feed-inside : j + 1 < b → feed_byte b (writing (at_byte (q * b + j)) buffer disc) x ≡ writing (at_byte (q * b + suc j)) (set buffer j x) disc
+    pub feed_inside : j + 1 < b → feed_byte b (writing (at_byte (q * b + j)) buffer disc) x ≡ writing (at_byte (q * b + suc j)) (set buffer j x) disc
     unfolding feed_byte
-    feed-inside h =
+    feed_inside h =
         let e₁ : (q * b + j) % b ≡ j = digits_mod q (omega arith) in
         let e₂ : q * b + j + 1 ≡ q * b + suc j = omega arith in
         let e₃ : (q * b + suc j) % b ≡ suc j = digits_mod q (omega arith) in
         rw (e₁, e₂, ne_eqb ((q * b + suc j) % b) 0 (λ e. omega arith))
 
-    pub feed-last : j + 1 ≡ b
+    pub feed_last : j + 1 ≡ b
         → feed_byte b (writing (at_byte (q * b + j)) buffer disc) x ≡ writing (at_byte (q * b + suc j)) (set buffer j x) (paste disc (q * b) (set buffer j x) b)
     unfolding feed_byte
-    feed-last h =
+    feed_last h =
         let e₁ : (q * b + j) % b ≡ j = digits_mod q (omega arith) in
         let e₂ : q * b + j + 1 ≡ q * b + suc j = omega arith in
         let e₃ : q * b + suc j ≡ (q + 1) * b = omega (arith, add-mul q 1 b, one-mul b) in
@@ -41,7 +42,7 @@ module _ (b : ℕ) where
   feed_some q j buffer disc [] h = rw (add-zero (q * b + j))
   feed_some q j buffer disc (x ∷ xs) h =
       let e : q * b + j + suc (length xs) ≡ q * b + suc j + length xs = omega arith in
-      rw (feed-inside q j x buffer disc (omega arith), e) (feed_some q (suc j) (set buffer j x) disc xs (omega arith))
+      rw (feed_inside q j x buffer disc (omega arith), e) (feed_some q (suc j) (set buffer j x) disc xs (omega arith))
 
   feed_all : (q j : ℕ) (buffer disc xs : List ℕ) → j < b → j + length xs ≡ b
       → feed_bytes b (writing (at_byte (q * b + j)) buffer disc) xs
@@ -49,10 +50,10 @@ module _ (b : ℕ) where
   feed_all q j buffer disc [] k h = absurd (omega arith)
   feed_all q j buffer disc (x ∷ []) k h =
       let e : q * b + j + 1 ≡ q * b + suc j = omega arith in
-      rw (feed-last q j x buffer disc (omega arith), e)
+      rw (feed_last q j x buffer disc (omega arith), e)
   feed_all q j buffer disc (x ∷ (y ∷ ys)) k h =
       let e : q * b + j + suc (length (y ∷ ys)) ≡ q * b + suc j + length (y ∷ ys) = omega arith in
-      rw (feed-inside q j x buffer disc (omega arith), e) (feed_all q (suc j) (set buffer j x) disc (y ∷ ys) (omega arith) (omega arith))
+      rw (feed_inside q j x buffer disc (omega arith), e) (feed_all q (suc j) (set buffer j x) disc (y ∷ ys) (omega arith) (omega arith))
 
   -- ---- the same from a place `at` on
 
@@ -60,10 +61,10 @@ module _ (b : ℕ) where
     pub share_part : at % b + length xs < b → feed_bytes b (writing (at_byte at) buffer disc) xs ≡ writing (at_byte (at + length xs)) (sets buffer (at % b) xs) disc
     share_part h = rw (div-add-mod' at b) at (feed_some (at / b) (at % b) buffer disc xs h)
 
-    pub share-full : 0 < b → at % b + length xs ≡ b
+    pub share_full : 0 < b → at % b + length xs ≡ b
         → feed_bytes b (writing (at_byte at) buffer disc) xs
         ≡ writing (at_byte (at + length xs)) (sets buffer (at % b) xs) (paste disc (at - at % b) (sets buffer (at % b) xs) b)
-    share-full pos h =
+    share_full pos h =
         let d = div-add-mod' at b in
         let e : at / b * b ≡ at - at % b = omega arith in
         rw (d, e) at (feed_all (at / b) (at % b) buffer disc xs (mod-lt at pos) h)

@@ -1,10 +1,11 @@
 -- One share of a feed: what the copy into the buffer leaves, and that the share is a run of bytes. Assumes nothing.
-use Rattle.ground.specs.Kit.{◌≡◌, ap, List, ◌++◌, ℕ, ◌≤◌, ◌+◌, ◌-◌, ◌%◌, min, arith, length, take, drop, length-drop, paste, sets, length-take-le}
+use Rattle.std.specs.Prelude.{◌≡◌, ◌++◌, ◌≤◌, ◌+◌, ◌-◌, ◌%◌}
+use Rattle.ground.specs.Kit.{ap, List, ℕ, min, arith, length, take, drop, length-drop, paste, sets, length-take-le}
 use Rattle.ground.specs.Filling.{Filled, filled, fill_of}
 use Rattle.moves.proofs.Blocks.{Share}
 use Rattle.ground.proofs.Parts.{put_back}
 use Rattle.feeds.specs.Feeding.{writing, feed_bytes}
-use Rattle.feeds.proofs.Feeding.{at_byte, share_part, share-full}
+use Rattle.feeds.proofs.Feeding.{at_byte, share_part, share_full}
 
 -- the buffer `after` has the first `count` bytes of the piece in its k bytes from `at` on
 pub record Copied (at k : ℕ) (piece buffer after : List ℕ) (count : ℕ) : Type 0 where
@@ -30,14 +31,14 @@ module _ (b at m : ℕ) (s : Share b at m) (piece buffer : List ℕ) (held : b �
     Done disc' =
         writing (at_byte (at + count)) after disc' ≡ feed_bytes b (writing (at_byte at) buffer disc) (take (min (length piece) (b - at % b)) piece)
 
-    pub part-done : (at % b + count ≡ b → ⊥) → Done disc
-    part-done h =
+    pub part_done : (at % b + count ≡ b → ⊥) → Done disc
+    part_done h =
         let z = c.size in
         let n = c.share in
         let i = s.inside in
         rw (← n, share_part b at buffer disc (take count piece) (omega arith), z, c.bytes)
 
-    pub full-done : (disc' : List ℕ) → at % b + count ≡ b → disc' ≡ paste disc (at - at % b) after b → Done disc'
-    full-done disc' h e =
+    pub full_done : (disc' : List ℕ) → at % b + count ≡ b → disc' ≡ paste disc (at - at % b) after b → Done disc'
+    full_done disc' h e =
         let z = c.size in
-        rw (← c.share, e, share-full b at buffer disc (take count piece) s.pos (omega arith), z, c.bytes)
+        rw (← c.share, e, share_full b at buffer disc (take count piece) s.pos (omega arith), z, c.bytes)

@@ -1,5 +1,6 @@
 -- Paper 01, "Disc transfers": a feed, byte by byte; and Req 03, that of a parameter list.
-use Rattle.ground.specs.Kit.{false, cond, List, [], ◌∷◌, ℕ, ◌+◌, ◌-◌, ◌%◌, min, eqb, length, take, set, sets, paste}
+use Rattle.std.specs.Prelude.{◌∷◌, ◌+◌, ◌-◌, ◌%◌}
+use Rattle.ground.specs.Kit.{false, cond, List, [], ℕ, min, eqb, length, take, set, sets, paste}
 use Rattle.disc.specs.declared.{BytePlace.BytePlace}
 use Rattle.state.specs.declared.{State.State, DiscAt.DiscAt, ListAt.ListAt, Transfer.Transfer}
 use Rattle.disc.specs.Formats.{block_bytes}

@@ -1,5 +1,6 @@
 // Feeding: bytes of a piece go to the block buffer, and each block that they complete goes to the disc.
-ghost use Rattle.ground.specs.Kit.{◌≡◌, min, length, take, paste};
+ghost use Rattle.std.specs.Prelude.{◌≡◌};
+ghost use Rattle.ground.specs.Kit.{min, length, take, paste};
 ghost use Rattle.disc.specs.Formats.{buffer_bytes, block_bytes};
 ghost use Rattle.moves.specs.Places.{Block, Place, WriteSpan, rest_of};
 ghost use Rattle.moves.specs.Replies.{onward};

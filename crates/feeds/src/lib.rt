@@ -1,7 +1,10 @@
 // Feed: how the bytes of a piece come to the disc, with the house refusals.
+#![tactic(auto)]
+
 mod blocks;
 
-ghost use Rattle.ground.specs.Kit.{◌≡◌, ◌≤◌, length};
+ghost use Rattle.std.specs.Prelude.{◌≡◌, ◌≤◌};
+ghost use Rattle.ground.specs.Kit.{length};
 ghost use Rattle.disc.specs.Formats.{buffer_bytes};
 ghost use Rattle.house.specs.World.{World, in_state, in_lent};
 ghost use Rattle.moves.specs.Places.{WriteSpan};

@@ -1,5 +1,6 @@
 -- A law of what is found in a table, from a proof for each entry. Assumes nothing.
-use Rattle.ground.specs.Kit.{Bool, true, false, cond, List, [], ◌∷◌, ℕ, eqb}
+use Rattle.std.specs.Prelude.{◌∷◌}
+use Rattle.ground.specs.Kit.{Bool, true, false, cond, List, [], ℕ, eqb}
 use Rattle.ground.specs.Tables.{Entry, find}
 
 module _ {A : Type 0} (P : A → Type 0) (other : A) where

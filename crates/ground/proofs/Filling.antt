@@ -1,5 +1,6 @@
 -- Laws of filling the start of a buffer. Assumes nothing.
-use Rattle.ground.specs.Kit.{◌≡◌, List, ℕ, ◌≤◌, length, take, take-take}
+use Rattle.std.specs.Prelude.{◌≡◌, ◌≤◌}
+use Rattle.ground.specs.Kit.{List, ℕ, length, take, take-take}
 use Rattle.ground.specs.Filling.{fill_of}
 
 -- a start of the source fills as the source itself

@@ -1,5 +1,6 @@
 -- What one test says of the first that fails, and the first that fails of all tests. Assumes nothing.
-use Rattle.ground.specs.Kit.{◌≡◌, refl, sym, ◌∙◌, Bool, true, false, cond, not, ◌&&◌, false≢true, List, [], ◌∷◌, ℕ, ◌+◌, ◌≤◌, ◌<◌, add-one, not-true, length, get_or, drop, drop_of_length-le, drop-cons}
+use Rattle.std.specs.Prelude.{◌≡◌, ◌&&◌, ◌∷◌, ◌+◌, ◌≤◌, ◌<◌}
+use Rattle.ground.specs.Kit.{refl, sym, ◌∙◌, Bool, true, false, cond, not, false≢true, List, [], ℕ, add-one, not-true, length, get_or, drop, drop_of_length-le, drop-cons}
 use Rattle.ground.proofs.Truth.{both}
 use Rattle.ground.proofs.Tables.{all}
 use Rattle.ground.specs.First.{first}

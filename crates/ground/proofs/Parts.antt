@@ -1,5 +1,6 @@
 -- Parts of a list: those that are lent and come back, and those beside a copy that was pasted. Assumes nothing.
-use Rattle.ground.specs.Kit.{◌≡◌, refl, sym, ◌∙◌, List, [], ◌∷◌, ◌++◌, append_assoc, flatten, ℕ, zero, suc, ◌≤◌, ◌+◌, ◌-◌, zero-add, add-zero, suc-add, arith, length, take, drop, set, length-drop, take-append-drop, paste, sets, sets-eq, take-nil, take_all, take_at, take-take, take-set-le, drop-set-lt, take-append-le, length-take-le, drop_at, drop-append-le, drop-drop, drop-paste}
+use Rattle.std.specs.Prelude.{◌≡◌, ◌∷◌, ◌++◌, ◌≤◌, ◌+◌, ◌-◌}
+use Rattle.ground.specs.Kit.{refl, sym, ◌∙◌, List, [], append_assoc, flatten, ℕ, zero, suc, zero-add, add-zero, suc-add, arith, length, take, drop, set, length-drop, take-append-drop, paste, sets, sets-eq, take-nil, take_all, take_at, take-take, take-set-le, drop-set-lt, take-append-le, length-take-le, drop_at, drop-append-le, drop-drop, drop-paste}
 
 -- lists of lists, one after the other
 pub flatten_append : (xs ys : List (List ℕ)) → flatten (xs ++ ys) ≡ flatten xs ++ flatten ys

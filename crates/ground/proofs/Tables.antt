@@ -1,5 +1,6 @@
 -- A rule of a table is one test that antt computes over all of its rows; and an entry that is found is one of them. Assumes nothing.
-use Rattle.ground.specs.Kit.{◌≡◌, refl, Bool, true, false, ◌&&◌, ◌||◌, false≢true, List, [], ◌∷◌, ℕ, zero, suc, ◌<◌, le_of_suc-le-suc, not-suc-le-zero, ne_eqb, eqb-true, eqb, length, get_or}
+use Rattle.std.specs.Prelude.{◌≡◌, ◌&&◌, ◌||◌, ◌∷◌, ◌<◌}
+use Rattle.ground.specs.Kit.{refl, Bool, true, false, false≢true, List, [], ℕ, zero, suc, le_of_suc-le-suc, not-suc-le-zero, ne_eqb, eqb-true, eqb, length, get_or}
 use Rattle.ground.specs.Tables.{Entry, find}
 use Rattle.ground.proofs.Truth.{both}
 

@@ -1,5 +1,6 @@
 -- Laws of tests that are true or false. Assumes nothing.
-use Rattle.ground.specs.Kit.{◌≡◌, refl, Bool, true, false, not, ◌&&◌, ◌||◌, true≢false, false≢true}
+use Rattle.std.specs.Prelude.{◌≡◌, ◌&&◌, ◌||◌}
+use Rattle.ground.specs.Kit.{refl, Bool, true, false, not, true≢false, false≢true}
 
 pub both : (a b : Bool) → (a && b) ≡ true → (a ≡ true) × (b ≡ true)
 both true b e = (refl, e)

@@ -1,5 +1,6 @@
 -- Bytes: one at a place, numbers of several, zeros, texts.
-use Rattle.ground.specs.Kit.{List, [], ◌∷◌, ℕ, ◌+◌, ◌*◌, ◌/◌, ◌%◌, get_or, replicate}
+use Rattle.std.specs.Prelude.{◌∷◌, ◌+◌, ◌*◌, ◌/◌, ◌%◌}
+use Rattle.ground.specs.Kit.{List, [], ℕ, get_or, replicate}
 use Prim.Native.Char.{code}
 use Prim.Native.String.{String, [] as end, ◌∷◌ as ◌then◌}
 

@@ -1,5 +1,6 @@
 -- The first bytes of a source put at the start of a buffer.
-use Rattle.ground.specs.Kit.{List, ◌++◌, ℕ, take, drop}
+use Rattle.std.specs.Prelude.{◌++◌}
+use Rattle.ground.specs.Kit.{List, ℕ, take, drop}
 
 -- how many bytes were put, and the buffer's bytes after
 pub record Filled : Type 0 where

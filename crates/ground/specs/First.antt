@@ -1,5 +1,6 @@
 -- Tests in order: "the first .. to fail gives ..".
-use Rattle.ground.specs.Kit.{Bool, cond, List, [], ◌∷◌}
+use Rattle.std.specs.Prelude.{◌∷◌}
+use Rattle.ground.specs.Kit.{Bool, cond, List, []}
 
 module _ {A B : Type 0} (fails : A → Bool) (gives : A → B) where
   abbrev pub first : List A → B → B

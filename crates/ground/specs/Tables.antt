@@ -1,5 +1,6 @@
 -- Tables by number: an entry is found by its key.
-use Rattle.ground.specs.Kit.{cond, List, [], ◌∷◌, ℕ, eqb}
+use Rattle.std.specs.Prelude.{◌∷◌}
+use Rattle.ground.specs.Kit.{cond, List, [], ℕ, eqb}
 
 pub record Entry (A : Type 0) : Type 0 where
   pub key : ℕ

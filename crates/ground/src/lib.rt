@@ -1,5 +1,8 @@
 // What knows nothing of the drive: a byte at a place, numbers of several bytes, the smaller of two counts, the start of a buffer filled.
-ghost use Rattle.ground.specs.Kit.{◌≡◌, min, length};
+#![tactic(auto)]
+
+ghost use Rattle.std.specs.Prelude.{◌≡◌};
+ghost use Rattle.ground.specs.Kit.{min, length};
 ghost use Rattle.ground.specs.Bytes.{byte_at, word, long, little};
 ghost use Rattle.ground.specs.Filling.{filled, fill_of};
 
@@ -43,5 +46,6 @@ pub fn fill(source: &[u8], buffer: &mut [u8]) -> usize
         ≡ fill_of (min (length source.now) (length buffer.old)) source.now buffer.old }
 {
     let n = least(source.len(), buffer.len());
-    bytes::copy(&source[..n], buffer)
+    buffer[..n].copy_from_slice(&source[..n]);
+    n
 }

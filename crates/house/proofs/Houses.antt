@@ -1,5 +1,6 @@
 -- A number is one refusal's; what the house tests say of a call that they let pass, and which call they let pass. Assumes nothing.
-use Rattle.ground.specs.Kit.{◌≡◌, refl, sym, ◌∙◌, ap, Bool, true, false, cond, List, [], ◌∷◌, ℕ, arith, eq-eqb, ne_eqb, eqb-true, eqb-false, le-ltb, ltb-false, not-false, eqb, ltb, length, get_or}
+use Rattle.std.specs.Prelude.{◌≡◌, ◌∷◌}
+use Rattle.ground.specs.Kit.{refl, sym, ◌∙◌, ap, Bool, true, false, cond, List, [], ℕ, arith, eq-eqb, ne_eqb, eqb-true, eqb-false, le-ltb, ltb-false, not-false, eqb, ltb, length, get_or}
 use Rattle.state.specs.declared.{State.State}
 use Rattle.house.specs.declared.{House.House}
 use Rattle.disc.specs.Formats.{buffer_bytes, disc_bytes}

@@ -1,5 +1,6 @@
 -- Paper 01, "House refusals, in order of testing".
-use Rattle.ground.specs.Kit.{Bool, not, ◌||◌, List, [], ◌∷◌, ℕ, eqb, ltb, length}
+use Rattle.std.specs.Prelude.{◌||◌, ◌∷◌}
+use Rattle.ground.specs.Kit.{Bool, not, List, [], ℕ, eqb, ltb, length}
 use Rattle.state.specs.declared.{State.State}
 use Rattle.house.specs.declared.{House.House}
 use Rattle.disc.specs.Formats.{buffer_bytes, disc_bytes}

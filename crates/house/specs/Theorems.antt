@@ -1,5 +1,6 @@
 -- What the house tests let pass, and that a number is one refusal's; proved in proofs/Houses.
-use Rattle.ground.specs.Kit.{◌≡◌, true, List, ℕ, ◌≤◌, length}
+use Rattle.std.specs.Prelude.{◌≡◌, ◌≤◌}
+use Rattle.ground.specs.Kit.{true, List, ℕ, length}
 use Rattle.state.specs.declared.{State.State}
 use Rattle.house.specs.declared.{House.House}
 use Rattle.disc.specs.Formats.{buffer_bytes, disc_bytes}

@@ -1,10 +1,12 @@
 // The house refusals: the tests of what is lent, in the paper's order.
-ghost use Rattle.ground.specs.Kit.{◌≡◌};
+#![tactic(auto)]
+
+ghost use Rattle.std.specs.Prelude.{◌≡◌};
 ghost use Rattle.house.specs.Refusals.{number_of, first_refusal, move_tests, command_tests, insert_tests, eject_tests};
 
 use state::State;
 
-#[derive(Drop)]
+#[derive(Clone, Copy)]
 pub enum House {
     Accepted,
     PacketLength,
@@ -32,6 +34,7 @@ pub fn number_of(house: House) -> u8
     }
 }
 
+#[tactic(auto, unfolding(crate::specs::Refusals::insert_tests))]
 pub fn insert_house(state: State, number: u8, disc: usize) -> House
     ensures { number_of result ≡ first_refusal (insert_tests state number disc) }
 {
@@ -50,6 +53,7 @@ pub fn insert_house(state: State, number: u8, disc: usize) -> House
     House::Accepted
 }
 
+#[tactic(auto, unfolding(crate::specs::Refusals::eject_tests))]
 pub fn eject_house(state: State) -> House
     ensures { number_of result ≡ first_refusal (eject_tests state) }
 {
@@ -63,6 +67,7 @@ pub fn eject_house(state: State) -> House
 }
 
 // Of a state and of the lengths that are lent.
+#[tactic(auto, unfolding(crate::specs::Refusals::move_tests))]
 pub fn move_house(state: State, buffer: usize, disc: usize) -> House
     ensures { number_of result ≡ first_refusal (move_tests state buffer disc) }
 {
@@ -78,6 +83,7 @@ pub fn move_house(state: State, buffer: usize, disc: usize) -> House
     House::Accepted
 }
 
+#[tactic(auto, unfolding(crate::specs::Refusals::command_tests, crate::specs::Refusals::move_tests))]
 pub fn command_house(state: State, packet: usize, buffer: usize, disc: usize) -> House
     ensures { number_of result ≡ first_refusal (command_tests state packet buffer disc) }
 {

@@ -1,5 +1,6 @@
 -- Laws of the numbers that pass a test. Assumes nothing.
-use Rattle.ground.specs.Kit.{◌≡◌, refl, sym, ◌∙◌, ◌⊎◌, inl, inr, Bool, true, false, true≢false, cond, List, [], ◌∷◌, ◌++◌, ℕ, zero, suc, ◌+◌, ◌<◌, ◌≤◌, arith, add-zero, zero-add, suc-add, le_refl, eq-or-lt_of_le, length}
+use Rattle.std.specs.Prelude.{◌≡◌, ◌⊎◌, ◌∷◌, ◌++◌, ◌+◌, ◌<◌, ◌≤◌}
+use Rattle.ground.specs.Kit.{refl, sym, ◌∙◌, inl, inr, Bool, true, false, true≢false, cond, List, [], ℕ, zero, suc, arith, add-zero, zero-add, suc-add, le_refl, eq-or-lt_of_le, length}
 use Rattle.listing.specs.Differing.{among}
 use Rattle.listing.specs.Theorems.{In, RisesFrom}
 use Rattle.listing.proofs.Rising.{sooner}

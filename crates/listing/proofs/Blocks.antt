@@ -1,5 +1,6 @@
 -- The differing blocks and their lines, one block after the other. Assumes nothing.
-use Rattle.ground.specs.Kit.{◌≡◌, refl, ap, ◌∙◌, Bool, true, false, cond, ◌||◌, List, [], ◌∷◌, ◌++◌, append-nil, map, map-append, flatten, ℕ, ◌+◌, ◌-◌, ◌*◌, ◌/◌, ◌^◌, ◌<◌, ◌≤◌, min, arith, one-mul, div-add-mod', mul-le-mul_right, ne_eqb, ltb-true, eqb, leb, ltb, length, take, drop, length-append, length-map, length-take, length-drop}
+use Rattle.std.specs.Prelude.{◌≡◌, ◌||◌, ◌∷◌, ◌++◌, ◌+◌, ◌-◌, ◌*◌, ◌/◌, ◌^◌, ◌<◌, ◌≤◌}
+use Rattle.ground.specs.Kit.{refl, ap, ◌∙◌, Bool, true, false, cond, List, [], append-nil, map, map-append, flatten, ℕ, min, arith, one-mul, div-add-mod', mul-le-mul_right, ne_eqb, ltb-true, eqb, leb, ltb, length, take, drop, length-append, length-map, length-take, length-drop}
 use Rattle.listing.specs.declared.{Difference.Difference, Comparison.Comparison}
 use Rattle.disc.specs.declared.{Format.Format, BlockAddress.BlockAddress}
 use Rattle.disc.specs.Formats.{no_format, formats, format_of, buffer_bytes, block_bytes, run_bytes}

@@ -1,5 +1,6 @@
 -- What is due of an image, and what a turn makes of it. Assumes nothing.
-use Rattle.ground.specs.Kit.{◌≡◌, refl, sym, ap, ◌∙◌, Bool, true, false, cond, List, ◌∷◌, ◌++◌, map, map-append, ℕ, zero, suc, ◌+◌, ◌-◌, ◌*◌, ◌<◌, ◌≤◌, min, arith, add_assoc, add-zero, zero-add, one-mul, mul-le-mul, le-div_iff_mul-le, eqb-false, leb-false, length, take, drop, take-take, drop-drop}
+use Rattle.std.specs.Prelude.{◌≡◌, ◌∷◌, ◌++◌, ◌+◌, ◌-◌, ◌*◌, ◌<◌, ◌≤◌}
+use Rattle.ground.specs.Kit.{refl, sym, ap, ◌∙◌, Bool, true, false, cond, List, map, map-append, ℕ, zero, suc, min, arith, add_assoc, add-zero, zero-add, one-mul, mul-le-mul, le-div_iff_mul-le, eqb-false, leb-false, length, take, drop, take-take, drop-drop}
 use Rattle.listing.specs.declared.{Difference.Difference, Comparison.Comparison}
 use Rattle.disc.specs.declared.{BlockAddress.BlockAddress}
 use Rattle.disc.specs.Formats.{format_of, block_bytes, run_bytes, disc_bytes, place_of}

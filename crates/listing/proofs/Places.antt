@@ -1,5 +1,6 @@
 -- The places at which two blocks differ, one byte after the other. Assumes nothing.
-use Rattle.ground.specs.Kit.{◌≡◌, refl, ap, ◌∙◌, Bool, true, false, bool_byte, cond, not, List, [], ◌∷◌, ◌++◌, ℕ, suc, ◌+◌, ◌-◌, ◌<◌, ◌≤◌, arith, zero-add, eqb, length, length-append, get_or}
+use Rattle.std.specs.Prelude.{◌≡◌, ◌∷◌, ◌++◌, ◌+◌, ◌-◌, ◌<◌, ◌≤◌}
+use Rattle.ground.specs.Kit.{refl, ap, ◌∙◌, Bool, true, false, bool_byte, cond, not, List, [], ℕ, suc, arith, zero-add, eqb, length, length-append, get_or}
 use Rattle.ground.specs.Bytes.{byte_at}
 use Rattle.listing.specs.Differing.{places_of}
 use Rattle.listing.proofs.Among.{among_append, among_more}

@@ -1,5 +1,6 @@
 -- The text of a part has room for its lines. Assumes nothing.
-use Rattle.ground.specs.Kit.{◌≡◌, Bool, true, false, List, [], ◌∷◌, flatten, ℕ, ◌*◌, ◌≤◌, arith, length, take, drop, length-append, take-append_seam}
+use Rattle.std.specs.Prelude.{◌≡◌, ◌∷◌, ◌*◌, ◌≤◌}
+use Rattle.ground.specs.Kit.{Bool, true, false, List, [], flatten, ℕ, arith, length, take, drop, length-append, take-append_seam}
 use Rattle.listing.specs.declared.{Difference.Difference}
 use Rattle.text.specs.Ink.{ink, put_all}
 use Rattle.text.proofs.Putting.{fits_first, stays_in_line}

@@ -1,5 +1,6 @@
 -- A listing can be read back, so images that are listed alike differ alike. Assumes nothing.
-use Rattle.ground.specs.Kit.{◌≡◌, refl, sym, ap, ◌∙◌, inl, inr, Bool, true, false, cond, List, [], ◌∷◌, ◌++◌, append_assoc, map, flatten, ℕ, zero, suc, ◌+◌, ◌-◌, ◌*◌, ◌/◌, ◌^◌, ◌<◌, ◌≤◌, arith, pow_step, le-leb, ltb-false, eqb, ltb, length, drop, get_or}
+use Rattle.std.specs.Prelude.{◌≡◌, ◌∷◌, ◌++◌, ◌+◌, ◌-◌, ◌*◌, ◌/◌, ◌^◌, ◌<◌, ◌≤◌}
+use Rattle.ground.specs.Kit.{refl, sym, ap, ◌∙◌, inl, inr, Bool, true, false, cond, List, [], append_assoc, map, flatten, ℕ, zero, suc, arith, pow_step, le-leb, ltb-false, eqb, ltb, length, drop, get_or}
 use Rattle.listing.specs.declared.{Difference.Difference}
 use Rattle.disc.specs.Formats.{block_bytes}
 use Rattle.disc.proofs.Discs.{block_fits, few_blocks}
@@ -75,6 +76,7 @@ rises_few at n [] r below = omega arith
 rises_few at n (x ∷ xs) r below = omega (arith, below x (inl refl), rises_few (suc x) n xs r.1 (λ y m. below y (inr m)))
 
 map_in : {A B : Type 0} (f : A → B) (xs : List A) (x : A) → In x xs → In (f x) (map f xs)
+map_in {A = A} {B = B} f [] x x3 = elim x3 [ ]
 map_in f (y ∷ ys) x (inl e) = inl (ap f e)
 map_in f (y ∷ ys) x (inr m) = inr (map_in f ys x m)
 

@@ -1,5 +1,6 @@
 -- In whatever parts two images come, their listing is printed. Assumes nothing.
-use Rattle.ground.specs.Kit.{◌≡◌, refl, sym, ap, ◌∙◌, ◌⊎◌, ⊎_elim, Bool, true, false, true≢false, cond, not, ◌&&◌, and-false, List, [], ◌++◌, append_assoc, append-nil, flatten, ℕ, zero, suc, ◌+◌, ◌-◌, ◌*◌, ◌^◌, ◌<◌, ◌≤◌, min, arith, add_assoc, add-zero, zero-add, sub-zero, zero-mul, eqb, leb, eqb-true, eq-eqb, ne_eqb, not-false, lt-leb, leb-true, leb-false, ltb, ltb-true, ltb-false, length, take, drop, length-append, length-drop, length-take-le, take_all, drop-drop}
+use Rattle.std.specs.Prelude.{◌≡◌, ◌⊎◌, ◌&&◌, ◌++◌, ◌+◌, ◌-◌, ◌*◌, ◌^◌, ◌<◌, ◌≤◌}
+use Rattle.ground.specs.Kit.{refl, sym, ap, ◌∙◌, ⊎_elim, Bool, true, false, true≢false, cond, not, and-false, List, [], append_assoc, append-nil, flatten, ℕ, zero, suc, min, arith, add_assoc, add-zero, zero-add, sub-zero, zero-mul, eqb, leb, eqb-true, eq-eqb, ne_eqb, not-false, lt-leb, leb-true, leb-false, ltb, ltb-true, ltb-false, length, take, drop, length-append, length-drop, length-take-le, take_all, drop-drop}
 use Rattle.listing.specs.declared.{Difference.Difference, Comparison.Comparison}
 use Rattle.disc.specs.declared.{BlockAddress.BlockAddress, BytePlace.BytePlace}
 use Rattle.ground.specs.Bytes.{text as words}

@@ -1,5 +1,6 @@
 -- What stands in a list, and lists of numbers that rise. Assumes nothing.
-use Rattle.ground.specs.Kit.{◌≡◌, refl, sym, ⊎_elim, inl, inr, List, [], ◌∷◌, map, ℕ, suc, ◌≤◌, arith, le_refl, length, get_or}
+use Rattle.std.specs.Prelude.{◌≡◌, ◌∷◌, ◌≤◌}
+use Rattle.ground.specs.Kit.{refl, sym, ⊎_elim, inl, inr, List, [], map, ℕ, suc, arith, le_refl, length, get_or}
 use Rattle.listing.specs.Theorems.{In, RisesFrom, Rises}
 
 -- ---- of what a list was made

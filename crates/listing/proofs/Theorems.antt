@@ -1,5 +1,6 @@
 -- What is listed is what differs: the statements of `specs/Theorems.antt`. Assumes nothing.
-use Rattle.ground.specs.Kit.{◌≡◌, refl, sym, ap, fun_ext, ext_get_or, subst, ◌∙◌, ◌⊎◌, inl, inr, ⊎_elim, Bool, true, false, not, not-true, not-false, List, [], ◌∷◌, ◌++◌, map, flatten, ℕ, zero, suc, ◌+◌, ◌*◌, ◌<◌, ◌≤◌, arith, zero-add, zero-mul, suc-mul, eqb, eqb-true, eqb-false, eq-eqb, ne_eqb, lt-ltb, le-ltb, ltb, or-true, length, take, drop, get_or, length-append, length-take, length-drop, length-take-le, take-add, take_all}
+use Rattle.std.specs.Prelude.{◌≡◌, ◌⊎◌, ◌∷◌, ◌++◌, ◌+◌, ◌*◌, ◌<◌, ◌≤◌}
+use Rattle.ground.specs.Kit.{refl, sym, ap, fun_ext, ext_get_or, subst, ◌∙◌, inl, inr, ⊎_elim, Bool, true, false, not, not-true, not-false, List, [], map, flatten, ℕ, zero, suc, arith, zero-add, zero-mul, suc-mul, eqb, eqb-true, eqb-false, eq-eqb, ne_eqb, lt-ltb, le-ltb, ltb, or-true, length, take, drop, get_or, length-append, length-take, length-drop, length-take-le, take-add, take_all}
 use Rattle.listing.specs.declared.{Difference.Difference}
 use Rattle.disc.specs.declared.{BlockAddress.BlockAddress}
 use Rattle.ground.specs.Bytes.{text, byte_at}

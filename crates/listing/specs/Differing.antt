@@ -1,5 +1,6 @@
 -- Req 01: "one line for each differing block in rising order: address, number of differing bytes, place of the first one in its block from 0".
-use Rattle.ground.specs.Kit.{Bool, cond, not, List, [], ◌∷◌, map, ℕ, zero, suc, ◌+◌, eqb, length, take, drop, get_or}
+use Rattle.std.specs.Prelude.{◌∷◌, ◌+◌}
+use Rattle.ground.specs.Kit.{Bool, cond, not, List, [], map, ℕ, zero, suc, eqb, length, take, drop, get_or}
 use Rattle.listing.specs.declared.{Difference.Difference}
 use Rattle.disc.specs.declared.{BlockAddress.BlockAddress}
 use Rattle.ground.specs.Bytes.{byte_at}

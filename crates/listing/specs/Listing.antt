@@ -1,5 +1,6 @@
 -- Req 01: what the compare tool prints.
-use Rattle.ground.specs.Kit.{Bool, cond, not, ◌||◌, List, [], ◌∷◌, ◌++◌, map, flatten, ℕ, eqb, ltb, length}
+use Rattle.std.specs.Prelude.{◌||◌, ◌∷◌, ◌++◌}
+use Rattle.ground.specs.Kit.{Bool, cond, not, List, [], map, flatten, ℕ, eqb, ltb, length}
 use Rattle.listing.specs.declared.{Difference.Difference}
 use Rattle.ground.specs.Bytes.{text}
 use Rattle.disc.specs.Formats.{disc_bytes}

@@ -1,5 +1,6 @@
 -- The loop of the program `compare`: each turn fills a room from each image, from the place of the next block on, and prints the lines of these parts.
-use Rattle.ground.specs.Kit.{◌≡◌, ◌⊎◌, false, cond, ◌&&◌, List, [], ◌++◌, ℕ, zero, suc, ◌+◌, ◌<◌, ◌≤◌, min, eqb, length, take, drop}
+use Rattle.std.specs.Prelude.{◌≡◌, ◌⊎◌, ◌&&◌, ◌++◌, ◌+◌, ◌<◌, ◌≤◌}
+use Rattle.ground.specs.Kit.{false, cond, List, [], ℕ, zero, suc, min, eqb, length, take, drop}
 use Rattle.listing.specs.declared.{Comparison.Comparison}
 use Rattle.disc.specs.declared.{BlockAddress.BlockAddress, BytePlace.BytePlace}
 use Rattle.disc.specs.Formats.{format_of, block_bytes, run_bytes, disc_bytes, place_of}

@@ -1,6 +1,7 @@
 -- Req 01: "The listing must hold every differing block once and no other." Each statement holds of every disc, and is proved in `proofs/` under the
 -- name in small letters, `EveryDiffering` as `every_differing`.
-use Rattle.ground.specs.Kit.{◌≡◌, ◌⊎◌, List, [], ◌∷◌, map, ℕ, suc, ◌^◌, ◌<◌, ◌≤◌, length, take, drop}
+use Rattle.std.specs.Prelude.{◌≡◌, ◌⊎◌, ◌∷◌, ◌^◌, ◌<◌, ◌≤◌}
+use Rattle.ground.specs.Kit.{List, [], map, ℕ, suc, length, take, drop}
 use Rattle.listing.specs.declared.{Difference.Difference}
 use Rattle.disc.specs.declared.{BlockAddress.BlockAddress}
 use Rattle.ground.specs.Bytes.{text, byte_at}

@@ -1,5 +1,6 @@
 -- Req 01: "The images are read a part at a time."
-use Rattle.ground.specs.Kit.{Bool, cond, List, [], ◌++◌, ℕ, ◌+◌, ◌-◌, ◌*◌, ◌/◌, ◌^◌, min, eqb, leb, length}
+use Rattle.std.specs.Prelude.{◌++◌, ◌+◌, ◌-◌, ◌*◌, ◌/◌, ◌^◌}
+use Rattle.ground.specs.Kit.{Bool, cond, List, [], ℕ, min, eqb, leb, length}
 use Rattle.listing.specs.declared.{Difference.Difference, Comparison.Comparison}
 use Rattle.disc.specs.declared.{BlockAddress.BlockAddress}
 use Rattle.disc.specs.Formats.{format_of, block_bytes, disc_bytes, place_of}

@@ -1,5 +1,8 @@
 // Two images of a disc compared block by block, a part of each at a time.
-ghost use Rattle.ground.specs.Kit.{◌≡◌, ◌+◌, ◌<◌, ◌≤◌, min, length, get_or, ◌^◌, ◌-◌};
+#![tactic(auto)]
+
+ghost use Rattle.std.specs.Prelude.{◌≡◌, ◌+◌, ◌<◌, ◌≤◌, ◌^◌, ◌-◌};
+ghost use Rattle.ground.specs.Kit.{min, length, get_or};
 ghost use Rattle.disc.specs.Formats.{format_of, buffer_bytes, run_bytes};
 ghost use Rattle.text.specs.Ink.{ink, put_all};
 ghost use Rattle.listing.specs.Differing.{places_of, difference_of, differing_from};
@@ -14,11 +17,11 @@ use text::Numeral;
 pub const LINE_BYTES: usize = 90;
 
 // Which byte of a block.
-#[derive(Drop)]
+#[derive(Clone, Copy)]
 pub struct PlaceInBlock(pub usize);
 
 // What is told of a block.
-#[derive(Drop)]
+#[derive(Clone, Copy)]
 pub struct Difference {
     pub block: BlockAddress,
     // how many bytes differ
@@ -27,7 +30,7 @@ pub struct Difference {
     pub first: PlaceInBlock,
 }
 
-#[derive(Drop)]
+#[derive(Clone, Copy)]
 pub struct Comparison {
     // the next block
     pub block: BlockAddress,
@@ -106,7 +109,7 @@ fn put_difference(text: &mut [u8], at: usize, difference: Difference) -> usize
 }
 
 // How many blocks differ, and how many bytes their lines have.
-#[derive(Drop)]
+#[derive(Clone, Copy)]
 struct Listed {
     count: usize,
     length: usize,
@@ -204,6 +207,7 @@ pub fn start(number: u8) -> Comparison
 }
 
 // How many bytes of each image are due from a block on, where there is room for so many at the most.
+#[tactic(auto, unfolding(crate::specs::Turns::due_of))]
 pub fn due(number: u8, from: BlockAddress, most: usize) -> usize
     ensures { result ≡ due_of number from most }
 {
@@ -235,6 +239,7 @@ pub fn turn(number: u8, run: Comparison, first: &[u8], second: &[u8], text: &mut
 }
 
 // The disc that a text names, 0 for none.
+#[tactic(auto, unfolding(crate::specs::Listing::disc_of))]
 pub fn disc_of(said: &[u8]) -> u8
     ensures { result ≡ disc_of said.now }
 {
@@ -246,6 +251,7 @@ pub fn disc_of(said: &[u8]) -> u8
 }
 
 // What is printed instead of a listing, by the disc and the lengths of the two files: nothing where they can be compared.
+#[tactic(auto, unfolding(crate::specs::Listing::refusal_of, text::specs::Ink::put_all))]
 pub fn put_refusal(number: u8, first: usize, second: usize, text: &mut [u8]) -> usize
     ensures { ink result text.new ≡ put_all (ink 0 text.old) (refusal_of number first second) }
 {

@@ -1,5 +1,6 @@
 -- Bytes of one value set from a place on: up to a place, one more, and all that there is room for. Assumes nothing.
-use Rattle.ground.specs.Kit.{◌≡◌, refl, sym, ap, ◌∙◌, Bool, true, false, List, [], ◌∷◌, ℕ, suc, ◌≤◌, ◌+◌, ◌-◌, min, arith, leb, leb-true, leb-false, length, length-replicate, replicate, replicate-append-replicate, set, set_out, sets, length-sets}
+use Rattle.std.specs.Prelude.{◌≡◌, ◌∷◌, ◌≤◌, ◌+◌, ◌-◌}
+use Rattle.ground.specs.Kit.{refl, sym, ap, ◌∙◌, Bool, true, false, List, [], ℕ, suc, min, arith, leb, leb-true, leb-false, length, length-replicate, replicate, replicate-append-replicate, set, set_out, sets, length-sets}
 use Rattle.ground.proofs.Parts.{sets_more}
 
 past : (vs l : List ℕ) (at : ℕ) → length l ≤ at → sets l at vs ≡ l

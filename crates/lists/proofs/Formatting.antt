@@ -1,5 +1,6 @@
 -- What a list looks at, which blocks it means, and what formatting leaves of a disc. Assumes nothing.
-use Rattle.ground.specs.Kit.{◌≡◌, refl, ap, ◌∙◌, Bool, true, false, cond, ◌&&◌, List, ◌++◌, append_assoc, ℕ, ◌+◌, ◌-◌, ◌*◌, ◌/◌, ◌≤◌, ◌<◌, mod-lt, le_refl, lit≤, zero-add, add-mul, one-mul, suc-mul, mul-le-mul_right, div-lt_iff_lt-mul, le-div_iff_mul-le, arith, eqb, leb, ltb, eq-eqb, ne_eqb, leb-true, leb-false, ltb-true, ltb-false, length, length-take-le, take, drop, get_or-take, replicate, length-replicate, replicate-append-replicate, sets, sets-eq, length-sets, drop-append-add, drop_at, take_at}
+use Rattle.std.specs.Prelude.{◌≡◌, ◌&&◌, ◌++◌, ◌+◌, ◌-◌, ◌*◌, ◌/◌, ◌≤◌, ◌<◌}
+use Rattle.ground.specs.Kit.{refl, ap, ◌∙◌, Bool, true, false, cond, List, append_assoc, ℕ, mod-lt, le_refl, lit≤, zero-add, add-mul, one-mul, suc-mul, mul-le-mul_right, div-lt_iff_lt-mul, le-div_iff_mul-le, arith, eqb, leb, ltb, eq-eqb, ne_eqb, leb-true, leb-false, ltb-true, ltb-false, length, length-take-le, take, drop, get_or-take, replicate, length-replicate, replicate-append-replicate, sets, sets-eq, length-sets, drop-append-add, drop_at, take_at}
 use Rattle.disc.specs.declared.{Format.Format, BlockAddress.BlockAddress}
 use Rattle.ground.specs.Bytes.{byte_at}
 use Rattle.ground.proofs.Parts.{part_taken, take_sets, drop_sets}

@@ -1,5 +1,6 @@
 -- Req 03: what a whole parameter list of FORMAT UNIT makes of the disc; tables 6 to 8 of source document 003.
-use Rattle.ground.specs.Kit.{Bool, true, false, cond, not, ◌&&◌, ◌||◌, List, ℕ, ◌+◌, ◌*◌, ◌/◌, ◌%◌, eqb, leb, ltb, replicate, sets}
+use Rattle.std.specs.Prelude.{◌&&◌, ◌||◌, ◌+◌, ◌*◌, ◌/◌, ◌%◌}
+use Rattle.ground.specs.Kit.{Bool, true, false, cond, not, List, ℕ, eqb, leb, ltb, replicate, sets}
 use Rattle.disc.specs.declared.{Format.Format, BlockAddress.BlockAddress}
 use Rattle.lists.specs.declared.{Blocks.Blocks}
 use Rattle.ground.specs.Bytes.{byte_at, word, long}

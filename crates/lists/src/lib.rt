@@ -1,12 +1,15 @@
 // The parameter list of FORMAT UNIT, when it is whole: it is judged, and the disc is filled as it asks.
-ghost use Rattle.ground.specs.Kit.{◌≡◌, ◌+◌, ◌<◌, ◌^◌, replicate, sets};
+#![tactic(auto)]
+
+ghost use Rattle.std.specs.Prelude.{◌≡◌, ◌+◌, ◌<◌, ◌^◌};
+ghost use Rattle.ground.specs.Kit.{replicate, sets};
 ghost use Rattle.lists.specs.Lists.{other_format_b, bad_list_b, meant_of, filler, judged, list_judged};
 
 use disc::{BlockAddress, BytePlace, Format};
 use ground::{byte, long_of, word_of};
 
 // Some of a disc's blocks, one after the other.
-#[derive(Drop)]
+#[derive(Clone, Copy)]
 pub struct Blocks {
     pub first: BlockAddress,
     pub count: u32,
@@ -30,6 +33,7 @@ fn bad_list(format: Format, list: &[u8]) -> bool
 }
 
 // The blocks that a list means: with Single Track those of the track and the side, else all.
+#[tactic(auto, unfolding(crate::specs::Lists::meant_of))]
 fn meant(format: Format, track: u8, list: &[u8]) -> Blocks
     ensures { result ≡ meant_of format track list.now }
 {

@@ -1,5 +1,6 @@
 -- Places within blocks of b bytes. Assumes nothing.
-use Rattle.ground.specs.Kit.{◌≡◌, List, ℕ, ◌<◌, ◌≤◌, ◌+◌, ◌-◌, ◌/◌, ◌%◌, min, mod-lt, mod-le, div-add-mod', div-lt_iff_lt-mul, mul-le-mul, mul-mod_left, le_refl, add-mul, one-mul, arith, length}
+use Rattle.std.specs.Prelude.{◌≡◌, ◌<◌, ◌≤◌, ◌+◌, ◌-◌, ◌/◌, ◌%◌}
+use Rattle.ground.specs.Kit.{List, ℕ, min, mod-lt, mod-le, div-add-mod', div-lt_iff_lt-mul, mul-le-mul, mul-mod_left, le_refl, add-mul, one-mul, arith, length}
 use Rattle.disc.specs.declared.{BytePlace.BytePlace}
 use Rattle.disc.specs.Formats.{buffer_bytes, format_of, block_bytes, run_bytes, disc_bytes}
 use Rattle.disc.proofs.Discs.{block_fits, block_holds}

@@ -1,5 +1,5 @@
 -- What any accepted feed or pull leaves, whatever it moves. Assumes nothing.
-use Rattle.ground.specs.Kit.{◌≡◌}
+use Rattle.std.specs.Prelude.{◌≡◌}
 use Rattle.house.specs.World.{World, Reply}
 
 -- no refusal; the disc that is in, and the attentions that are pending

@@ -1,5 +1,6 @@
 -- A ready world's open transfer is one that the functions that move bytes can serve. Assumes nothing.
-use Rattle.ground.specs.Kit.{◌≡◌, true, ℕ, arith, leb-true}
+use Rattle.std.specs.Prelude.{◌≡◌}
+use Rattle.ground.specs.Kit.{true, ℕ, arith, leb-true}
 use Rattle.state.specs.declared.{AnswerAt.AnswerAt, DiscAt.DiscAt, ListAt.ListAt, Transfer.Transfer}
 use Rattle.state.specs.declared.Transfer.TheVariants.{Answer, Read, Write, ParameterList}
 use Rattle.sound.specs.Soundness.{open_sound_b}

@@ -1,5 +1,6 @@
 -- What the functions that move bytes ask of a place, of a block and of the bytes that are left. The entries' house tests see to it.
-use Rattle.ground.specs.Kit.{◌≡◌, List, ℕ, ◌+◌, ◌-◌, ◌<◌, ◌≤◌, ◌%◌, length}
+use Rattle.std.specs.Prelude.{◌≡◌, ◌+◌, ◌-◌, ◌<◌, ◌≤◌, ◌%◌}
+use Rattle.ground.specs.Kit.{List, ℕ, length}
 use Rattle.disc.specs.declared.{BytePlace.BytePlace}
 use Rattle.state.specs.declared.{AnswerAt.AnswerAt, DiscAt.DiscAt}
 use Rattle.disc.specs.Formats.{block_bytes, disc_bytes}

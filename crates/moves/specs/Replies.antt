@@ -1,5 +1,6 @@
 -- What a feed and a pull have in common: what they reply, and what is left of the transfer.
-use Rattle.ground.specs.Kit.{false, List, ℕ, ◌+◌, ◌-◌}
+use Rattle.std.specs.Prelude.{◌+◌, ◌-◌}
+use Rattle.ground.specs.Kit.{false, List, ℕ}
 use Rattle.disc.specs.declared.{BytePlace.BytePlace}
 use Rattle.state.specs.declared.{AnswerAt.AnswerAt, DiscAt.DiscAt, ListAt.ListAt}
 use Rattle.moves.specs.declared.{MoveReply.MoveReply}

@@ -1,5 +1,6 @@
 -- The table of base commands: each rule is one test that antt computes over all entries. Assumes nothing.
-use Rattle.ground.specs.Kit.{◌≡◌, refl, Bool, true, false, not, ◌||◌, beq, false≢true, List, ℕ, eqb}
+use Rattle.std.specs.Prelude.{◌≡◌, ◌||◌}
+use Rattle.ground.specs.Kit.{refl, Bool, true, false, not, beq, false≢true, List, ℕ, eqb}
 use Rattle.packet.specs.declared.{Rule.Rule, Routine.Routine, Values.Values, Known.Known}
 use Rattle.ground.proofs.Tables.{all, found}
 use Rattle.packet.specs.Rules.{rules, code_of, rule_of}

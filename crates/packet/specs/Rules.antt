@@ -1,5 +1,6 @@
 -- The base commands: by operation code the row of the masks, the check set, and what is done.
-use Rattle.ground.specs.Kit.{Bool, true, false, List, [], ◌∷◌, ℕ}
+use Rattle.std.specs.Prelude.{◌∷◌}
+use Rattle.ground.specs.Kit.{Bool, true, false, List, [], ℕ}
 use Rattle.packet.specs.declared.{Asked.Asked, Values.Values, Field.Field, Routine.Routine, Known.Known}
 use Rattle.ground.specs.Bytes.{byte_at}
 use Rattle.ground.specs.Tables.{Entry, ◌is◌, find}

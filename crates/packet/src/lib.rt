@@ -1,5 +1,7 @@
 // What a packet says: its fields, and the base command that it is.
-ghost use Rattle.ground.specs.Kit.{◌≡◌};
+#![tactic(auto)]
+
+ghost use Rattle.std.specs.Prelude.{◌≡◌};
 ghost use Rattle.packet.specs.Fields.{address_of, length_of};
 ghost use Rattle.packet.specs.Rules.{asking_of, base_of, rule_of};
 
@@ -41,7 +43,7 @@ pub const READ_12: u8 = 0xa8;
 pub const WRITE_12: u8 = 0xaa;
 
 // Which of the checks B, C, D, G and H are asked.
-#[derive(Drop)]
+#[derive(Clone, Copy)]
 pub struct Asked {
     pub unit: bool,
     pub attention: bool,
@@ -64,7 +66,7 @@ const H: bool = true;
 const NO: bool = false;
 
 // What the checks F and F2 look at: nothing, bits of byte 4 that have to be zero, page and page control, or the fields of FORMAT UNIT.
-#[derive(Drop)]
+#[derive(Clone, Copy)]
 pub enum Values {
     Any,
     ZeroBits(u8),
@@ -83,7 +85,7 @@ const PAGE: Values = Values::Page;
 const FORMAT: Values = Values::FormatUnit;
 
 // Where a command has its length.
-#[derive(Drop)]
+#[derive(Clone, Copy)]
 pub enum Field {
     Nowhere,
     Byte4,
@@ -99,7 +101,7 @@ const BYTES_7_8: Field = Field::Bytes7To8;
 
 const BYTES_6_9: Field = Field::Bytes6To9;
 
-#[derive(Drop)]
+#[derive(Clone, Copy)]
 pub enum Answering {
     Sense,
     Inquiry,
@@ -109,7 +111,7 @@ pub enum Answering {
 }
 
 // What a command does when it has passed.
-#[derive(Drop)]
+#[derive(Clone, Copy)]
 pub enum Routine {
     Nothing,
     Motor,
@@ -140,7 +142,7 @@ const WRITE: Routine = Routine::Write;
 const TAKE_LIST: Routine = Routine::ParameterList;
 
 // A base command: its row of the masks, its check set, its routine.
-#[derive(Drop)]
+#[derive(Clone, Copy)]
 pub struct Rule {
     pub row: usize,
     pub asked: Asked,
@@ -149,7 +151,7 @@ pub struct Rule {
     pub routine: Routine,
 }
 
-#[derive(Drop)]
+#[derive(Clone, Copy)]
 pub enum Known {
     Unknown,
     Base(Rule),

@@ -1,5 +1,6 @@
 -- What the drive sees of the disc, and what comes back. Assumes nothing.
-use Rattle.ground.specs.Kit.{◌≡◌, refl, sym, ap, subst, ◌∙◌, Bool, true, false, cond, List, [], ◌∷◌, ◌++◌, ℕ, zero, suc, ◌≤◌, arith, eqb, length, take, drop, take-append-drop, length-take-le, take-length, drop-append_seam}
+use Rattle.std.specs.Prelude.{◌≡◌, ◌∷◌, ◌++◌, ◌≤◌}
+use Rattle.ground.specs.Kit.{refl, sym, ap, subst, ◌∙◌, Bool, true, false, cond, List, [], ℕ, zero, suc, arith, eqb, length, take, drop, take-append-drop, length-take-le, take-length, drop-append_seam}
 use Rattle.record.specs.declared.{Record.Record}
 use Rattle.ground.specs.Bytes.{zeros}
 use Rattle.house.specs.World.{World, in_state}

@@ -1,5 +1,6 @@
 -- How long a line can be. Assumes nothing.
-use Rattle.ground.specs.Kit.{◌≡◌, refl, Bool, true, false, cond, List, [], ◌∷◌, ℕ, ◌+◌, ◌*◌, ◌≤◌, arith, ltb, length, length-append, length-take, length-replicate}
+use Rattle.std.specs.Prelude.{◌≡◌, ◌∷◌, ◌+◌, ◌*◌, ◌≤◌}
+use Rattle.ground.specs.Kit.{refl, Bool, true, false, cond, List, [], ℕ, arith, ltb, length, length-append, length-take, length-replicate}
 use Rattle.record.specs.declared.{Record.Record}
 use Rattle.state.specs.declared.{Sense.Sense}
 use Rattle.ground.specs.Bytes.{zeros}

@@ -1,5 +1,6 @@
 -- The bytes of a pull, as text. Assumes nothing.
-use Rattle.ground.specs.Kit.{◌≡◌, List, [], ◌∷◌, ℕ, min, arith, lt-ltb, length, take, drop, length-take, take-append-drop, take-append_seam}
+use Rattle.std.specs.Prelude.{◌≡◌, ◌∷◌}
+use Rattle.ground.specs.Kit.{List, [], ℕ, min, arith, lt-ltb, length, take, drop, length-take, take-append-drop, take-append_seam}
 use Rattle.text.specs.Numbers.{hexes_of}
 use Rattle.player.specs.Lines.{shown_text}
 

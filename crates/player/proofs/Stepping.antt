@@ -1,5 +1,6 @@
 -- A step that waits, and one that plays. Assumes nothing.
-use Rattle.ground.specs.Kit.{◌≡◌, ap, Bool, true, false, List, ℕ}
+use Rattle.std.specs.Prelude.{◌≡◌}
+use Rattle.ground.specs.Kit.{ap, Bool, true, false, List, ℕ}
 use Rattle.house.specs.World.{World}
 use Rattle.text.specs.Ink.{Ink, ink, put_all}
 use Rattle.record.specs.Records.{length_field, record_of}

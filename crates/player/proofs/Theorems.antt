@@ -1,5 +1,6 @@
 -- What holds of every step. Assumes nothing.
-use Rattle.ground.specs.Kit.{◌≡◌, refl, sym, ap, ◌∙◌, Bool, true, false, cond, not, ◌&&◌, or-false, true≢false, false≢true, List, ◌++◌, ℕ, ◌<◌, ◌≤◌, arith, eqb, length, drop}
+use Rattle.std.specs.Prelude.{◌≡◌, ◌&&◌, ◌++◌, ◌<◌, ◌≤◌}
+use Rattle.ground.specs.Kit.{refl, sym, ap, ◌∙◌, Bool, true, false, cond, not, or-false, true≢false, false≢true, List, ℕ, arith, eqb, length, drop}
 use Rattle.record.specs.declared.{Record.Record}
 use Rattle.player.specs.declared.{Progress.Progress}
 use Rattle.house.specs.World.{World}

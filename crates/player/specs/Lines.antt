@@ -1,5 +1,6 @@
 -- Paper 01, "The bench player": the line of a record.
-use Rattle.ground.specs.Kit.{cond, List, [], ◌∷◌, ◌++◌, ℕ, ltb, length}
+use Rattle.std.specs.Prelude.{◌∷◌, ◌++◌}
+use Rattle.ground.specs.Kit.{cond, List, [], ℕ, ltb, length}
 use Rattle.state.specs.declared.{Sense.Sense}
 use Rattle.ground.specs.Bytes.{text}
 use Rattle.text.specs.Numbers.{hex_of, hexes_of, decimal_of}

@@ -1,5 +1,6 @@
 -- Paper 01, "The bench player": what is played of a record.
-use Rattle.ground.specs.Kit.{Bool, true, false, cond, List, [], ◌++◌, ℕ, eqb, length, take, drop}
+use Rattle.std.specs.Prelude.{◌++◌}
+use Rattle.ground.specs.Kit.{Bool, true, false, cond, List, [], ℕ, eqb, length, take, drop}
 use Rattle.state.specs.declared.{State.State}
 use Rattle.house.specs.declared.{House.House}
 use Rattle.player.specs.declared.{Outcome.Outcome}

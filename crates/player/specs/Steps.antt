@@ -1,5 +1,6 @@
 -- The bench player, a record at a time.
-use Rattle.ground.specs.Kit.{Bool, true, false, cond, not, ◌&&◌, ◌||◌, List, ℕ, eqb, length}
+use Rattle.std.specs.Prelude.{◌&&◌, ◌||◌}
+use Rattle.ground.specs.Kit.{Bool, true, false, cond, not, List, ℕ, eqb, length}
 use Rattle.player.specs.declared.{Progress.Progress}
 use Rattle.house.specs.World.{World, world}
 use Rattle.text.specs.Ink.{Ink, ink, put_all}

@@ -1,5 +1,6 @@
 -- What holds of every step. Each is proved in `proofs/` under the name in small letters, `UsesWhatIsThere` as `uses_what_is_there`.
-use Rattle.ground.specs.Kit.{◌≡◌, Bool, true, false, List, ◌++◌, ℕ, ◌<◌, ◌≤◌, length, drop}
+use Rattle.std.specs.Prelude.{◌≡◌, ◌++◌, ◌<◌, ◌≤◌}
+use Rattle.ground.specs.Kit.{Bool, true, false, List, ℕ, length, drop}
 use Rattle.player.specs.declared.{Progress.Progress}
 use Rattle.house.specs.World.{World}
 use Rattle.text.specs.Ink.{ink}

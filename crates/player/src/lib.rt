@@ -1,15 +1,17 @@
 // The bench player, a record at a time: what is played, and the line that it prints.
+#![tactic(auto)]
+
 mod lines;
 mod playing;
 
-ghost use Rattle.ground.specs.Kit.{◌≡◌};
+ghost use Rattle.std.specs.Prelude.{◌≡◌};
 ghost use Rattle.house.specs.World.{world};
 ghost use Rattle.player.specs.Steps.{stepped, step_of};
 
 use drive::House;
 use state::State;
 
-#[derive(Drop)]
+#[derive(Clone, Copy)]
 pub struct Progress {
     // nothing is played: bytes are missing, or none are left
     pub waits: bool,
@@ -26,7 +28,7 @@ pub struct Progress {
 }
 
 // What a record came to; the first `shown` bytes of the buffer for pulls are to be printed.
-#[derive(Drop)]
+#[derive(Clone, Copy)]
 pub(crate) struct Outcome {
     pub(crate) bad: bool,
     pub(crate) house: House,

@@ -1,5 +1,6 @@
 // The text of a line.
-ghost use Rattle.ground.specs.Kit.{◌≡◌, [], take};
+ghost use Rattle.std.specs.Prelude.{◌≡◌};
+ghost use Rattle.ground.specs.Kit.{[], take};
 ghost use Rattle.text.specs.Ink.{ink, put_all};
 ghost use Rattle.player.specs.Playing.{spoken};
 ghost use Rattle.player.specs.Lines.{number_text, digits_text, sense_text, shown_text, played_line, line_of};

@@ -1,5 +1,5 @@
 // What is played of a record.
-ghost use Rattle.ground.specs.Kit.{◌≡◌};
+ghost use Rattle.std.specs.Prelude.{◌≡◌};
 ghost use Rattle.ground.specs.Bytes.{zeros};
 ghost use Rattle.house.specs.World.{world};
 ghost use Rattle.record.specs.Records.{record_of};

@@ -1,8 +1,8 @@
 -- A pull by the open transfer: what a proof has to show of it. Assumes nothing.
-use Rattle.ground.specs.Kit.{◌≡◌, refl, sym, ◌∙◌, List, [], ◌∷◌, ℕ, tag_of, OneOf, miss}
+use Rattle.std.specs.Prelude.{◌≡◌}
+use Rattle.ground.specs.Kit.{refl, sym, ◌∙◌, List, [], ℕ}
 use Rattle.state.specs.declared.{AnswerAt.AnswerAt, DiscAt.DiscAt, Transfer.Transfer}
 use Rattle.state.specs.declared.Transfer.TheVariants.{Closed, Answer, Read, Write, ParameterList}
-use Rattle.state.specs.contracts.Transfer.{the_type}
 use Rattle.state.specs.States.{moved_of}
 use Rattle.house.specs.World.{World, Reply}
 use Rattle.house.specs.Theorems.{Ready}
@@ -55,14 +55,12 @@ module _ (w : World) (out : List ℕ) where
       (λ p e. record { house = refl; media = refl; power = refl; change = refl })
       (λ p e. record { house = refl; media = refl; power = refl; change = refl })
 
--- what the default of a `match` on the transfer is given, that its tag is none of the others', is enough
-abbrev others : List ℕ
-others = 0 ∷ 3 ∷ 4 ∷ []
-
-pub unpulled : (w : World) (out : List ℕ) (t : Transfer) → OneOf others (tag_of the_type t) → idle w out ≡ pull_by t w out
-unpulled w out t k = here (pulling t)
+-- what the default of a `match` on the transfer is given, that it is neither of the others, is enough
+pub unpulled : (w : World) (out : List ℕ) (t : Transfer) → ((p : AnswerAt) → t ≡ Answer p → ⊥) → ((p : DiscAt) → t ≡ Read p → ⊥)
+    → idle w out ≡ pull_by t w out
+unpulled w out t no_answer no_read = here (pulling t)
   where
     here : Pulling t → idle w out ≡ pull_by t w out
     here (idles none same) = sym (same w out)
-    here (answers p e) = absurd (miss others 1 tt (rw e at k))
-    here (reads p e) = absurd (miss others 2 tt (rw e at k))
+    here (answers p e) = absurd (no_answer p e)
+    here (reads p e) = absurd (no_read p e)

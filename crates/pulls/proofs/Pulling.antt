@@ -1,5 +1,6 @@
 -- What a pull leaves in the caller's buffer. Assumes nothing.
-use Rattle.ground.specs.Kit.{◌≡◌, ap, ◌∙◌, false, List, ◌++◌, ℕ, ◌≤◌, ◌+◌, ◌-◌, min, arith, length, take, drop, length-drop, length-take-le, take-take, take_at, drop_at, take-add, drop-drop, sets-eq}
+use Rattle.std.specs.Prelude.{◌≡◌, ◌++◌, ◌≤◌, ◌+◌, ◌-◌}
+use Rattle.ground.specs.Kit.{ap, ◌∙◌, false, List, ℕ, min, arith, length, take, drop, length-drop, length-take-le, take-take, take_at, drop_at, take-add, drop-drop, sets-eq}
 use Rattle.state.specs.declared.{State.State, Transfer.Transfer}
 use Rattle.ground.specs.Filling.{Filled, filled, fill_of}
 use Rattle.state.specs.States.{moved_of}

@@ -1,5 +1,6 @@
 // Pulling: bytes of the disc go to the start of a lent buffer, block by block.
-ghost use Rattle.ground.specs.Kit.{◌≡◌, min, length, drop};
+ghost use Rattle.std.specs.Prelude.{◌≡◌};
+ghost use Rattle.ground.specs.Kit.{min, length, drop};
 ghost use Rattle.ground.specs.Filling.{filled, fill_of};
 ghost use Rattle.moves.specs.Places.{Place, ReadSpan, rest_of};
 ghost use Rattle.pulls.specs.Pulling.{served_of};

@@ -1,7 +1,9 @@
 // Pull: how the bytes of an answer or of the disc come to a lent buffer, with the house refusals.
+#![tactic(auto)]
+
 mod blocks;
 
-ghost use Rattle.ground.specs.Kit.{◌≡◌};
+ghost use Rattle.std.specs.Prelude.{◌≡◌};
 ghost use Rattle.house.specs.World.{World, in_state, in_lent};
 ghost use Rattle.moves.specs.Places.{AnswerSpan, ReadSpan};
 ghost use Rattle.moves.specs.Replies.{moved};

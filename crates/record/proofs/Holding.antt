@@ -1,5 +1,6 @@
 -- What a record holds, row by row. Assumes nothing.
-use Rattle.ground.specs.Kit.{◌≡◌, refl, Bool, true, false, cond, ◌&&◌, List, ℕ, ◌≤◌, arith, leb-true, leb, length}
+use Rattle.std.specs.Prelude.{◌≡◌, ◌&&◌, ◌≤◌}
+use Rattle.ground.specs.Kit.{refl, Bool, true, false, cond, List, ℕ, arith, leb-true, leb, length}
 use Rattle.record.specs.declared.{Record.Record}
 use Rattle.ground.specs.Bytes.{byte_at, little}
 use Rattle.ground.proofs.Truth.{both}

@@ -1,5 +1,6 @@
 -- A record that can be told stays the same whatever comes behind it. Assumes nothing.
-use Rattle.ground.specs.Kit.{◌≡◌, refl, Bool, true, false, cond, ◌&&◌, ◌||◌, and-false, or-true, ◌⊎◌, inl, inr, ⊎_elim, List, ◌++◌, ℕ, ◌+◌, ◌<◌, ◌≤◌, arith, leb-true, leb-false, ltb-true, ltb-false, le-leb, lt-leb, lt-ltb, leb, ltb, length, take, drop, length-append, length-drop, drop-append-le, take-append-le, get_or-append}
+use Rattle.std.specs.Prelude.{◌≡◌, ◌&&◌, ◌||◌, ◌⊎◌, ◌++◌, ◌+◌, ◌<◌, ◌≤◌}
+use Rattle.ground.specs.Kit.{refl, Bool, true, false, cond, and-false, or-true, inl, inr, ⊎_elim, List, ℕ, arith, leb-true, leb-false, ltb-true, ltb-false, le-leb, lt-leb, lt-ltb, leb, ltb, length, take, drop, length-append, length-drop, drop-append-le, take-append-le, get_or-append}
 use Rattle.record.specs.declared.{Record.Record}
 use Rattle.ground.specs.Bytes.{byte_at, little}
 use Rattle.ground.proofs.Truth.{both, neither}

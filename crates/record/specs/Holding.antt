@@ -1,5 +1,6 @@
 -- What a record that isn't bad says of the bytes behind its header.
-use Rattle.ground.specs.Kit.{◌≡◌, List, ℕ, ◌+◌, ◌≤◌, length}
+use Rattle.std.specs.Prelude.{◌≡◌, ◌+◌, ◌≤◌}
+use Rattle.ground.specs.Kit.{List, ℕ, length}
 use Rattle.record.specs.declared.{Record.Record}
 use Rattle.record.specs.Records.{length_field, record_of}
 use Rattle.record.specs.declared.Record.TheVariants.{Insert, Eject, Command, Feed, Pull, Bad}

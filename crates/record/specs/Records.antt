@@ -1,5 +1,6 @@
 -- Paper 01, "The bench player": the bytes of a script, record by record.
-use Rattle.ground.specs.Kit.{Bool, cond, ◌&&◌, List, [], ◌∷◌, ℕ, ◌-◌, eqb, leb, length}
+use Rattle.std.specs.Prelude.{◌&&◌, ◌∷◌, ◌-◌}
+use Rattle.ground.specs.Kit.{Bool, cond, List, [], ℕ, eqb, leb, length}
 use Rattle.record.specs.declared.{Record.Record}
 use Rattle.ground.specs.Bytes.{byte_at, little}
 use Rattle.ground.specs.Tables.{Entry, ◌is◌, find}

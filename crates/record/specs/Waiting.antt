@@ -1,5 +1,6 @@
 -- When the record at the front of a script can be told from the bytes that have come so far.
-use Rattle.ground.specs.Kit.{◌≡◌, Bool, true, false, ◌&&◌, ◌||◌, List, ◌++◌, ℕ, ◌<◌, leb, ltb, length}
+use Rattle.std.specs.Prelude.{◌≡◌, ◌&&◌, ◌||◌, ◌++◌, ◌<◌}
+use Rattle.ground.specs.Kit.{Bool, true, false, List, ℕ, leb, ltb, length}
 use Rattle.record.specs.Records.{length_field, record_of}
 
 -- its length and kind have come, and it is whole or longer than any record

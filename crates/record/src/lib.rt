@@ -1,5 +1,8 @@
 // The bytes of a script, taken apart record by record.
-ghost use Rattle.ground.specs.Kit.{◌≡◌, cond, ◌-◌};
+#![tactic(auto)]
+
+ghost use Rattle.std.specs.Prelude.{◌≡◌, ◌-◌};
+ghost use Rattle.ground.specs.Kit.{cond};
 ghost use Rattle.record.specs.declared.Record.TheVariants.{Bad};
 ghost use Rattle.record.specs.Records.{length_field, kind_field, whole_b, if_whole, insert_record, pull_record, record_of};
 ghost use Rattle.record.specs.Waiting.{enough_b};
@@ -7,7 +10,7 @@ ghost use Rattle.record.specs.Waiting.{enough_b};
 use ground::{byte, little_of};
 
 // What a record asks to be played.
-#[derive(Drop)]
+#[derive(Clone, Copy)]
 pub enum Record {
     // the disc's number and its protection
     Insert(u8, bool),

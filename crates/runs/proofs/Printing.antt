@@ -1,5 +1,6 @@
 -- What is printed of a record: whole, and the same whatever comes behind the record. Assumes nothing.
-use Rattle.ground.specs.Kit.{◌≡◌, sym, ap, ◌∙◌, Bool, true, false, cond, or-false, true≢false, List, ◌++◌, append_assoc, ℕ, ◌+◌, ◌-◌, ◌<◌, ◌≤◌, arith, length, take, drop, length-append, length-take-le, length-drop, take-append-le, drop-append-add, drop-drop}
+use Rattle.std.specs.Prelude.{◌≡◌, ◌++◌, ◌+◌, ◌-◌, ◌<◌, ◌≤◌}
+use Rattle.ground.specs.Kit.{sym, ap, ◌∙◌, Bool, true, false, cond, or-false, true≢false, List, append_assoc, ℕ, arith, length, take, drop, length-append, length-take-le, length-drop, take-append-le, drop-append-add, drop-drop}
 use Rattle.state.specs.declared.{Sense.Sense}
 use Rattle.house.specs.World.{World}
 use Rattle.record.specs.Records.{record_of}

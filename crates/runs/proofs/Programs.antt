@@ -1,5 +1,6 @@
 -- The loop of the program is the loop of the bench player's machine. Assumes nothing.
-use Rattle.ground.specs.Kit.{◌≡◌, refl, ap, ◌∙◌, Bool, true, false, List, ◌++◌, ℕ, zero, suc, arith, take, length}
+use Rattle.std.specs.Prelude.{◌≡◌, ◌++◌}
+use Rattle.ground.specs.Kit.{refl, ap, ◌∙◌, Bool, true, false, List, ℕ, zero, suc, arith, take, length}
 use Rattle.window.specs.declared.{Window.Window}
 use Rattle.house.specs.World.{World, world}
 use Rattle.text.specs.Ink.{Ink}

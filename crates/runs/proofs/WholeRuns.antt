@@ -1,5 +1,6 @@
 -- In whatever parts a script comes, the same lines are printed. Assumes nothing.
-use Rattle.ground.specs.Kit.{◌≡◌, refl, sym, ap, ◌∙◌, Bool, true, false, cond, or-true, true≢false, List, [], ◌∷◌, ◌++◌, ℕ, zero, suc, ◌+◌, ◌-◌, ◌^◌, ◌<◌, ◌≤◌, min, arith, eqb-suc-zero, length, drop, length-append, length-drop, take-append_seam}
+use Rattle.std.specs.Prelude.{◌≡◌, ◌∷◌, ◌++◌, ◌+◌, ◌-◌, ◌^◌, ◌<◌, ◌≤◌}
+use Rattle.ground.specs.Kit.{refl, sym, ap, ◌∙◌, Bool, true, false, cond, or-true, true≢false, List, [], ℕ, zero, suc, min, arith, eqb-suc-zero, length, drop, length-append, length-drop, take-append_seam}
 use Rattle.house.specs.World.{World}
 use Rattle.text.specs.Ink.{ink}
 use Rattle.record.specs.Records.{length_field, record_of}

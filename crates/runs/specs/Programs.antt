@@ -1,6 +1,6 @@
 -- The loop of the program `bench`: a turn, its line, and a read where one is due.
-use Rattle.ground.specs.Kit.{◌≡◌, Bool, cond, List, [], ◌++◌, ℕ, zero, suc, ◌+◌, ◌-◌, ◌^◌, ◌<◌, ◌≤◌, length, take, drop, get_or}
-use Rattle.std.specs.Prelude.{pos}
+use Rattle.std.specs.Prelude.{◌≡◌, ◌++◌, ◌+◌, ◌-◌, ◌^◌, ◌<◌, ◌≤◌, pos}
+use Rattle.ground.specs.Kit.{Bool, cond, List, [], ℕ, zero, suc, length, take, drop, get_or}
 use Rattle.window.specs.Windows.{held}
 use Rattle.window.specs.Streams.{brings}
 use Rattle.window.specs.Loops.{Leaves, refilled}

@@ -1,5 +1,6 @@
 -- A whole run of the bench player: "It reads a script from standard input."
-use Rattle.ground.specs.Kit.{◌≡◌, Bool, true, false, cond, List, ◌++◌, ℕ, zero, suc, ◌+◌, ◌-◌, ◌≤◌, eqb, length, take, drop, replicate}
+use Rattle.std.specs.Prelude.{◌≡◌, ◌++◌, ◌+◌, ◌-◌, ◌≤◌}
+use Rattle.ground.specs.Kit.{Bool, true, false, cond, List, ℕ, zero, suc, eqb, length, take, drop, replicate}
 use Rattle.state.specs.States.{power_on}
 use Rattle.house.specs.World.{World, world}
 use Rattle.record.specs.Records.{length_field, record_of}

@@ -1,1 +1,2 @@
 // No code: what a whole script prints, however it comes.
+#![tactic(auto)]

@@ -1,5 +1,6 @@
 -- Every step that the state takes keeps it sound. Assumes nothing.
-use Rattle.ground.specs.Kit.{◌≡◌, refl, Bool, true, false, cond, not, ◌&&◌, ◌||◌, ℕ, ◌≤◌, le-leb, ne_eqb, eqb, leb}
+use Rattle.std.specs.Prelude.{◌≡◌, ◌&&◌, ◌||◌, ◌≤◌}
+use Rattle.ground.specs.Kit.{refl, Bool, true, false, cond, not, ℕ, le-leb, ne_eqb, eqb, leb}
 use Rattle.state.specs.declared.{Sense.Sense, Media.Media, State.State, Transfer.Transfer}
 use Rattle.ground.proofs.Truth.{both}
 use Rattle.state.specs.Senses.{no_disc, named_b}

@@ -1,5 +1,6 @@
 -- What soundness says of an open transfer, in numbers, and back. Assumes nothing.
-use Rattle.ground.specs.Kit.{◌≡◌, refl, true, not, ◌&&◌, ℕ, ◌+◌, ◌%◌, ◌≤◌, ◌<◌, arith, eqb-true, eqb-false, leb-true, ltb-true, ne_eqb, le-leb, lt-ltb, not-true, eqb, leb, ltb}
+use Rattle.std.specs.Prelude.{◌≡◌, ◌&&◌, ◌+◌, ◌%◌, ◌≤◌, ◌<◌}
+use Rattle.ground.specs.Kit.{refl, true, not, ℕ, arith, eqb-true, eqb-false, leb-true, ltb-true, ne_eqb, le-leb, lt-ltb, not-true, eqb, leb, ltb}
 use Rattle.state.specs.declared.{AnswerAt.AnswerAt, DiscAt.DiscAt, ListAt.ListAt, Media.Media, Transfer.Transfer}
 use Rattle.disc.specs.Formats.{format_of, buffer_bytes, block_bytes, disc_bytes}
 use Rattle.ground.proofs.Truth.{both}

@@ -1,5 +1,6 @@
 -- Paper 01, "A state is sound when".
-use Rattle.ground.specs.Kit.{Bool, true, not, ◌&&◌, ◌||◌, ℕ, ◌+◌, ◌%◌, eqb, leb, ltb}
+use Rattle.std.specs.Prelude.{◌&&◌, ◌||◌, ◌+◌, ◌%◌}
+use Rattle.ground.specs.Kit.{Bool, true, not, ℕ, eqb, leb, ltb}
 use Rattle.state.specs.declared.{Media.Media, State.State, DiscAt.DiscAt, ListAt.ListAt, Transfer.Transfer}
 use Rattle.disc.specs.Formats.{format_of, buffer_bytes, block_bytes, disc_bytes}
 use Rattle.state.specs.declared.Transfer.TheVariants.{Closed, Answer, Read, Write, ParameterList}

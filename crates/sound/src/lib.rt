@@ -1,5 +1,8 @@
 // The test that a state is sound.
-ghost use Rattle.ground.specs.Kit.{◌≡◌, ◌+◌, leb};
+#![tactic(auto)]
+
+ghost use Rattle.std.specs.Prelude.{◌≡◌, ◌+◌};
+ghost use Rattle.ground.specs.Kit.{leb};
 ghost use Rattle.sound.specs.Soundness.{ends_on_block_b, on_disc_b, list_sound_b, open_sound_b, sound_b};
 
 use state::{DiscAt, ListAt, Media, State, Transfer};

@@ -1,5 +1,6 @@
 -- A transfer with nothing left is closed, any other stays as it is. Assumes nothing.
-use Rattle.ground.specs.Kit.{◌≡◌, refl, Bool, true, false, cond, eqb-true, eqb-false, eqb}
+use Rattle.std.specs.Prelude.{◌≡◌}
+use Rattle.ground.specs.Kit.{refl, Bool, true, false, cond, eqb-true, eqb-false, eqb}
 use Rattle.state.specs.declared.{Transfer.Transfer}
 use Rattle.state.specs.declared.Transfer.TheVariants.{Closed}
 use Rattle.state.specs.States.{left_of, closed_at_zero}

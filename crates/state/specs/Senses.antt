@@ -1,5 +1,6 @@
 -- The sense triples that paper 01 names.
-use Rattle.ground.specs.Kit.{Bool, ◌&&◌, ◌||◌, List, [], ◌∷◌, ℕ, eqb}
+use Rattle.std.specs.Prelude.{◌&&◌, ◌||◌, ◌∷◌}
+use Rattle.ground.specs.Kit.{Bool, List, [], ℕ, eqb}
 use Rattle.state.specs.declared.{Sense.Sense}
 
 -- key, additional code, qualifier

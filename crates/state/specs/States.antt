@@ -1,5 +1,6 @@
 -- Paper 01, "State": what the drive remembers, and what each kind of call makes of it.
-use Rattle.ground.specs.Kit.{Bool, true, false, cond, not, ◌&&◌, ℕ, eqb}
+use Rattle.std.specs.Prelude.{◌&&◌}
+use Rattle.ground.specs.Kit.{Bool, true, false, cond, not, ℕ, eqb}
 use Rattle.state.specs.declared.{Sense.Sense, Media.Media, Host.Host, State.State, Transfer.Transfer}
 use Rattle.state.specs.declared.Transfer.TheVariants.{Closed, Answer, Read, Write, ParameterList}
 use Rattle.state.specs.Senses.{no_sense, power_told, change_told, no_disc, same_b}

@@ -1,12 +1,14 @@
 // What the drive remembers, and what each kind of call makes of it.
-ghost use Rattle.ground.specs.Kit.{◌≡◌};
+#![tactic(auto)]
+
+ghost use Rattle.std.specs.Prelude.{◌≡◌};
 ghost use Rattle.state.specs.Senses.{same_b, named_b};
 ghost use Rattle.state.specs.States.{power_on, told, left_of, is_open_b, closed_at_zero, inserted_of, sense_after, ejected_of, obeyed_of, moved_of};
 
 use disc::BytePlace;
 
 // Key, additional code, qualifier.
-#[derive(Drop)]
+#[derive(Clone, Copy)]
 pub struct Sense(pub u8, pub u8, pub u8);
 
 pub const NO_SENSE: Sense = Sense(0x00, 0x00, 0x00);
@@ -32,7 +34,7 @@ pub const PROTECTED: Sense = Sense(0x07, 0x27, 0x00);
 pub const BAD_LIST: Sense = Sense(0x05, 0x26, 0x00);
 
 // The disc that is in, 0 for none, and its protection.
-#[derive(Drop)]
+#[derive(Clone, Copy)]
 pub struct Media {
     pub disc: u8,
     pub protected: bool,
@@ -44,7 +46,7 @@ const NO_MEDIA: Media = Media {
 };
 
 // What is remembered for the host: the attentions that it has not been told of, and its sense.
-#[derive(Drop)]
+#[derive(Clone, Copy)]
 pub struct Host {
     pub power: bool,
     pub change: bool,
@@ -52,14 +54,14 @@ pub struct Host {
 }
 
 // An answer: `at` counts in the block buffer.
-#[derive(Drop)]
+#[derive(Clone, Copy)]
 pub struct AnswerAt {
     pub at: usize,
     pub left: usize,
 }
 
 // A read or a write: `at` is a place on the disc.
-#[derive(Drop)]
+#[derive(Clone, Copy)]
 pub struct DiscAt {
     pub at: BytePlace,
     pub left: usize,
@@ -69,13 +71,13 @@ pub struct DiscAt {
 pub const LIST_BYTES: usize = 12;
 
 // A parameter list: the track that its command names, and how many of its bytes are to come.
-#[derive(Drop)]
+#[derive(Clone, Copy)]
 pub struct ListAt {
     pub track: u8,
     pub left: usize,
 }
 
-#[derive(Drop)]
+#[derive(Clone, Copy)]
 pub enum Transfer {
     Closed,
     Answer(AnswerAt),
@@ -84,7 +86,7 @@ pub enum Transfer {
     ParameterList(ListAt),
 }
 
-#[derive(Drop)]
+#[derive(Clone, Copy)]
 pub struct State {
     pub media: Media,
     pub motor: bool,

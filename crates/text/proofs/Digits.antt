@@ -1,5 +1,6 @@
 -- A digit more in front, and none. Assumes nothing.
-use Rattle.ground.specs.Kit.{◌≡◌, sym, ◌∙◌, true, false, ◌&&◌, and-true, and-eq-true_iff, false≢true, List, ℕ, zero, suc, ◌+◌, ◌-◌, ◌/◌, ◌<◌, ◌≤◌, arith, add-one, sub-one, lt-ltb, ltb-true, ltb, length, drop, get_or, set, drop-cons, drop-set-lt}
+use Rattle.std.specs.Prelude.{◌≡◌, ◌&&◌, ◌+◌, ◌-◌, ◌/◌, ◌<◌, ◌≤◌}
+use Rattle.ground.specs.Kit.{sym, ◌∙◌, true, false, and-true, and-eq-true_iff, false≢true, List, ℕ, zero, suc, arith, add-one, sub-one, lt-ltb, ltb-true, ltb, length, drop, get_or, set, drop-cons, drop-set-lt}
 use Rattle.text.specs.Numbers.{last_digit, digits_before}
 
 pub some_place : (i n : ℕ) → (ltb 9 n && ltb 0 i) ≡ true → 1 ≤ i

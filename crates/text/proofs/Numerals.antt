@@ -1,5 +1,6 @@
 -- A number that a text says, digit by digit. Assumes nothing.
-use Rattle.ground.specs.Kit.{◌≡◌, refl, sym, ap, ◌∙◌, Bool, true, false, cond, and-false, List, [], ◌∷◌, ℕ, zero, suc, ◌+◌, ◌-◌, ◌*◌, ◌/◌, ◌^◌, ◌<◌, ◌≤◌, arith, le-leb, lt-leb, le-ltb, lt-ltb, ltb-false, ltb, pow_step, eqb-suc-zero, length, drop, drop-cons, drop_of_length-le, get_or, add-one}
+use Rattle.std.specs.Prelude.{◌≡◌, ◌∷◌, ◌+◌, ◌-◌, ◌*◌, ◌/◌, ◌^◌, ◌<◌, ◌≤◌}
+use Rattle.ground.specs.Kit.{refl, sym, ap, ◌∙◌, Bool, true, false, cond, and-false, List, [], ℕ, zero, suc, arith, le-leb, lt-leb, le-ltb, lt-ltb, ltb-false, ltb, pow_step, eqb-suc-zero, length, drop, drop-cons, drop_of_length-le, get_or, add-one}
 use Rattle.text.specs.declared.Numeral.TheVariants.{Of, NoNumber}
 use Rattle.text.specs.Numbers.{last_digit, digits_before}
 use Rattle.text.specs.Reading.{with_digit, after, number_of, ReadsNumbers}

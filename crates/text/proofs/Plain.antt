@@ -1,5 +1,6 @@
 -- Bytes can be told from the text that shows them. Assumes nothing.
-use Rattle.ground.specs.Kit.{◌≡◌, refl, sym, ap, ◌∙◌, Bool, true, false, cond, false≢true, List, [], ◌∷◌, ◌++◌, ℕ, suc, ◌+◌, ◌/◌, ◌%◌, ◌<◌, arith, div-add-mod', ltb-true, ltb-false, ltb}
+use Rattle.std.specs.Prelude.{◌≡◌, ◌∷◌, ◌++◌, ◌+◌, ◌/◌, ◌%◌, ◌<◌}
+use Rattle.ground.specs.Kit.{refl, sym, ap, ◌∙◌, Bool, true, false, cond, false≢true, List, [], ℕ, suc, arith, div-add-mod', ltb-true, ltb-false, ltb}
 use Rattle.text.specs.Numbers.{glyph_of, hex_of}
 use Rattle.text.specs.Plain.{prints_b, plain_byte, plain_of, PlainApart}
 

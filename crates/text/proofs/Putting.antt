@@ -1,5 +1,6 @@
 -- Putting goes on byte by byte. Assumes nothing.
-use Rattle.ground.specs.Kit.{◌≡◌, refl, sym, ap, ◌∙◌, Bool, true, false, cond, List, [], ◌∷◌, ◌++◌, ℕ, suc, ◌+◌, ◌<◌, ◌≤◌, arith, add-zero, zero-add, add-one, lt-ltb, ltb-true, ltb, length, drop, get_or, set, length-set, drop_of_length-le, drop-cons, sets, sets-eq}
+use Rattle.std.specs.Prelude.{◌≡◌, ◌∷◌, ◌++◌, ◌+◌, ◌<◌, ◌≤◌}
+use Rattle.ground.specs.Kit.{refl, sym, ap, ◌∙◌, Bool, true, false, cond, List, [], ℕ, suc, arith, add-zero, zero-add, add-one, lt-ltb, ltb-true, ltb, length, drop, get_or, set, length-set, drop_of_length-le, drop-cons, sets, sets-eq}
 use Rattle.text.specs.Ink.{Ink, ink, put_byte, put_all, FitsWhole, StaysInLine, OneText}
 
 pub put_append : (i : Ink) (xs ys : List ℕ) → put_all i (xs ++ ys) ≡ put_all (put_all i xs) ys

@@ -1,5 +1,6 @@
 -- A number's digits, read back, are the number. Assumes nothing.
-use Rattle.ground.specs.Kit.{◌≡◌, refl, ap, ◌∙◌, Bool, true, false, cond, List, [], ◌∷◌, ℕ, zero, suc, ◌+◌, ◌/◌, ◌^◌, ◌<◌, ◌≤◌, arith, pow_step, ltb-false, ltb, length}
+use Rattle.std.specs.Prelude.{◌≡◌, ◌∷◌, ◌+◌, ◌/◌, ◌^◌, ◌<◌, ◌≤◌}
+use Rattle.ground.specs.Kit.{refl, ap, ◌∙◌, Bool, true, false, cond, List, [], ℕ, zero, suc, arith, pow_step, ltb-false, ltb, length}
 use Rattle.text.specs.Numbers.{last_digit, digits_before, read_after, ReadsBack, FewDigits}
 
 digits_read : (k n : ℕ) (text : List ℕ) → n < 10 ^ suc k → read_after 0 (digits_before k n text) ≡ read_after n text

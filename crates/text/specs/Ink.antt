@@ -1,5 +1,6 @@
 -- Text put into a line of a fixed length, byte after byte.
-use Rattle.ground.specs.Kit.{◌≡◌, cond, List, [], ◌∷◌, ◌++◌, ℕ, ◌+◌, ◌≤◌, ltb, length, set, take, drop}
+use Rattle.std.specs.Prelude.{◌≡◌, ◌∷◌, ◌++◌, ◌+◌, ◌≤◌}
+use Rattle.ground.specs.Kit.{cond, List, [], ℕ, ltb, length, set, take, drop}
 
 -- the place of the next byte, and the line's bytes
 pub record Ink : Type 0 where

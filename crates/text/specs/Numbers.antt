@@ -1,5 +1,6 @@
 -- Numbers as text, in ASCII: "lower-case hex, the other numbers decimal".
-use Rattle.ground.specs.Kit.{◌≡◌, cond, List, [], ◌∷◌, ◌++◌, ℕ, zero, suc, ◌+◌, ◌-◌, ◌*◌, ◌/◌, ◌%◌, ◌^◌, ◌<◌, ◌≤◌, ltb, length}
+use Rattle.std.specs.Prelude.{◌≡◌, ◌∷◌, ◌++◌, ◌+◌, ◌-◌, ◌*◌, ◌/◌, ◌%◌, ◌^◌, ◌<◌, ◌≤◌}
+use Rattle.ground.specs.Kit.{cond, List, [], ℕ, zero, suc, ltb, length}
 
 -- `0` to `9`, then `a` to `f`
 unfoldable pub glyph_of : ℕ → ℕ

@@ -1,5 +1,6 @@
 -- Bytes shown so that a reader can tell each: those that do not print are escaped.
-use Rattle.ground.specs.Kit.{◌≡◌, Bool, cond, not, ◌&&◌, List, [], ◌∷◌, ◌++◌, ℕ, ◌<◌, eqb, leb, get_or}
+use Rattle.std.specs.Prelude.{◌≡◌, ◌&&◌, ◌∷◌, ◌++◌, ◌<◌}
+use Rattle.ground.specs.Kit.{Bool, cond, not, List, [], ℕ, eqb, leb, get_or}
 use Rattle.ground.specs.Bytes.{text}
 use Rattle.text.specs.Numbers.{hex_of}
 

@@ -1,5 +1,6 @@
 -- A number that a text says: of digits only; any other text, an empty one and a number too large say none.
-use Rattle.ground.specs.Kit.{◌≡◌, Bool, cond, ◌&&◌, List, [], ◌∷◌, ℕ, ◌+◌, ◌-◌, ◌*◌, ◌^◌, ◌<◌, eqb, leb, ltb, length}
+use Rattle.std.specs.Prelude.{◌≡◌, ◌&&◌, ◌∷◌, ◌+◌, ◌-◌, ◌*◌, ◌^◌, ◌<◌}
+use Rattle.ground.specs.Kit.{Bool, cond, List, [], ℕ, eqb, leb, ltb, length}
 use Rattle.text.specs.declared.{Numeral.Numeral}
 use Rattle.text.specs.declared.Numeral.TheVariants.{Of, NoNumber}
 use Rattle.text.specs.Numbers.{decimal_of}

@@ -1,5 +1,8 @@
 // Text composed in a lent line: each function goes on at a place and answers the place after what it put.
-ghost use Rattle.ground.specs.Kit.{◌≡◌, ◌<◌, ◌∷◌, []};
+#![tactic(auto)]
+
+ghost use Rattle.std.specs.Prelude.{◌≡◌, ◌<◌, ◌∷◌};
+ghost use Rattle.ground.specs.Kit.{[]};
 ghost use Rattle.text.specs.Numbers.{glyph_of, hex_of, hexes_of, decimal_of};
 ghost use Rattle.text.specs.Plain.{plain_byte, plain_of};
 ghost use Rattle.text.specs.Reading.{with_digit, number_of};
@@ -98,7 +101,7 @@ pub fn put_decimal(line: &mut [u8], at: usize, n: u64) -> usize
 }
 
 // What a text says, read as a number.
-#[derive(Drop)]
+#[derive(Clone, Copy)]
 pub enum Numeral {
     Of(u64),
     NoNumber,

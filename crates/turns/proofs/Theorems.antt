@@ -1,5 +1,6 @@
 -- What holds of every turn. Assumes nothing.
-use Rattle.ground.specs.Kit.{◌≡◌, refl, sym, subst, Bool, true, false, cond, not, ◌&&◌, List, ℕ, ◌-◌, ◌≤◌, min, arith, zero-add, length}
+use Rattle.std.specs.Prelude.{◌≡◌, ◌&&◌, ◌-◌, ◌≤◌}
+use Rattle.ground.specs.Kit.{refl, sym, subst, Bool, true, false, cond, not, List, ℕ, min, arith, zero-add, length}
 use Rattle.house.specs.World.{world}
 use Rattle.text.specs.Ink.{Ink, ink, put_all}
 use Rattle.text.proofs.Putting.{stays_in_line}

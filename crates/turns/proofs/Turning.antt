@@ -1,5 +1,6 @@
 -- What a turn leaves, put together from what its parts answered. Assumes nothing.
-use Rattle.ground.specs.Kit.{◌≡◌, refl, ap, ◌∙◌, Bool, true, false, cond, not, ◌&&◌, ◌||◌, false≢true, true≢false, List, [], ℕ, ◌-◌}
+use Rattle.std.specs.Prelude.{◌≡◌, ◌&&◌, ◌||◌, ◌-◌}
+use Rattle.ground.specs.Kit.{refl, ap, ◌∙◌, Bool, true, false, cond, not, false≢true, true≢false, List, [], ℕ}
 use Rattle.turns.specs.declared.{Run.Run}
 use Rattle.window.specs.declared.{Window.Window}
 use Rattle.player.specs.declared.{Progress.Progress}

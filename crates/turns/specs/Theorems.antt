@@ -1,5 +1,6 @@
 -- What holds of every turn. Each statement is proved in `proofs/` under the name in small letters, `UsesRecord` as `uses_record`.
-use Rattle.ground.specs.Kit.{◌≡◌, Bool, List, ℕ, ◌≤◌, min, length}
+use Rattle.std.specs.Prelude.{◌≡◌, ◌≤◌}
+use Rattle.ground.specs.Kit.{Bool, List, ℕ, min, length}
 use Rattle.turns.specs.declared.{Run.Run}
 use Rattle.window.specs.declared.{Window.Window}
 use Rattle.window.specs.Windows.{unread}

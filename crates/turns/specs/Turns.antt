@@ -1,8 +1,8 @@
 -- The bench player's loop, a turn at a time.
-use Rattle.ground.specs.Kit.{Bool, true, false, cond, not, ◌&&◌, ◌||◌, List, ℕ, ◌+◌, ◌-◌, ◌^◌, min}
+use Rattle.std.specs.Prelude.{◌&&◌, ◌||◌, ◌+◌, ◌-◌, ◌^◌, ℤ, pos}
+use Rattle.ground.specs.Kit.{Bool, true, false, cond, not, List, ℕ, min}
 use Rattle.turns.specs.declared.{Run.Run}
 use Rattle.window.specs.declared.{Window.Window}
-use Rattle.std.specs.Prelude.{ℤ, pos}
 use Rattle.std.specs.Int.Signed.{le_z}
 use Rattle.state.specs.States.{power_on}
 use Rattle.house.specs.World.{world}

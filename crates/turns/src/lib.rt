@@ -1,5 +1,8 @@
 // The bench player's loop, a turn at a time: the program only reads and writes.
-ghost use Rattle.ground.specs.Kit.{◌≡◌, []};
+#![tactic(auto)]
+
+ghost use Rattle.std.specs.Prelude.{◌≡◌};
+ghost use Rattle.ground.specs.Kit.{[]};
 ghost use Rattle.text.specs.Ink.{ink};
 ghost use Rattle.player.specs.Steps.{stepped};
 ghost use Rattle.turns.specs.Turns.{start_of, next_of, done_of, worded_line, run_of, turned, turn_of, came_of};
@@ -8,7 +11,7 @@ use player::Progress;
 use state::State;
 use window::Window;
 
-#[derive(Drop)]
+#[derive(Clone, Copy)]
 pub struct Run {
     // the run goes on
     pub on: bool,

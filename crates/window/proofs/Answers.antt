@@ -1,5 +1,6 @@
 -- What a read answered, and how many bytes that is. Assumes nothing.
-use Rattle.ground.specs.Kit.{◌≡◌, refl, true, false, false≢true, ℕ, ◌≤◌, min, arith, ltb-false}
+use Rattle.std.specs.Prelude.{◌≡◌, ◌≤◌}
+use Rattle.ground.specs.Kit.{refl, true, false, false≢true, ℕ, min, arith, ltb-false}
 use lib.IntN.{ℤ, pos, negsuc, nat_abs}
 use lib.Dec.{T}
 use lib.Signed.{lt_z, non_neg}

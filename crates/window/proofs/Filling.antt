@@ -1,5 +1,6 @@
 -- A room that is filled comes nearer to its end with each read, and in the end has the bytes that come. Assumes nothing.
-use Rattle.ground.specs.Kit.{◌≡◌, refl, sym, ap, ◌∙◌, Bool, true, false, cond, ◌||◌, false≢true, List, [], ◌++◌, append_assoc, ℕ, zero, suc, ◌+◌, ◌-◌, ◌<◌, ◌≤◌, min, sub-zero, arith, leb-true, leb-false, leb, length, take, drop, get_or, length-append, length-take, length-drop, take-append-drop, take-append_seam}
+use Rattle.std.specs.Prelude.{◌≡◌, ◌||◌, ◌++◌, ◌+◌, ◌-◌, ◌<◌, ◌≤◌}
+use Rattle.ground.specs.Kit.{refl, sym, ap, ◌∙◌, Bool, true, false, cond, false≢true, List, [], append_assoc, ℕ, zero, suc, min, sub-zero, arith, leb-true, leb-false, leb, length, take, drop, get_or, length-append, length-take, length-drop, take-append-drop, take-append_seam}
 use Rattle.window.specs.declared.{Window.Window}
 use lib.IntN.{ℤ, pos, negsuc}
 use lib.Signed.{le_z}

@@ -1,5 +1,6 @@
 -- What is unread after each function, and what a window holds of the bytes that came. Assumes nothing.
-use Rattle.ground.specs.Kit.{◌≡◌, refl, sym, ap, ◌∙◌, Bool, true, false, List, [], ◌∷◌, ◌++◌, ℕ, zero, suc, ◌+◌, ◌-◌, ◌≤◌, min, sub-zero, arith, leb-true, leb-false, leb, length, take, drop, length-append, length-drop, length-take-le, take-nil, take-append-add, take-append_seam, drop-append-le, drop-drop, drop_of_length-le, le_refl}
+use Rattle.std.specs.Prelude.{◌≡◌, ◌∷◌, ◌++◌, ◌+◌, ◌-◌, ◌≤◌}
+use Rattle.ground.specs.Kit.{refl, sym, ap, ◌∙◌, Bool, true, false, List, [], ℕ, zero, suc, min, sub-zero, arith, leb-true, leb-false, leb, length, take, drop, length-append, length-drop, length-take-le, take-nil, take-append-add, take-append_seam, drop-append-le, drop-drop, drop_of_length-le, le_refl}
 use Rattle.window.specs.Windows.{unread, used_of, brought_of}
 use Rattle.window.specs.Holding.{UsedUnread, ToFrontUnread, CameUnread, OpenedHolds, UsedHolds, WithinStays, ToFrontHolds, SettledHolds, CameHolds}
 use Rattle.window.proofs.Answers.{at_most}

@@ -1,5 +1,6 @@
 -- The loop over a window reads as the machine does. Assumes nothing.
-use Rattle.ground.specs.Kit.{◌≡◌, refl, ap, ◌∙◌, Bool, true, false, cond, not, ◌&&◌, List, ◌++◌, ℕ, zero, suc, ◌+◌, ◌-◌, ◌≤◌, min, arith, lt-leb, eqb-suc-zero, eqb, leb, length, take, drop, get_or, length-append, length-take, length-drop, length-take-le, take-append_seam}
+use Rattle.std.specs.Prelude.{◌≡◌, ◌&&◌, ◌++◌, ◌+◌, ◌-◌, ◌≤◌}
+use Rattle.ground.specs.Kit.{refl, ap, ◌∙◌, Bool, true, false, cond, not, List, ℕ, zero, suc, min, arith, lt-leb, eqb-suc-zero, eqb, leb, length, take, drop, get_or, length-append, length-take, length-drop, length-take-le, take-append_seam}
 use lib.IntN.{pos}
 use Rattle.window.specs.declared.{Window.Window}
 use Rattle.window.specs.Windows.{Held, held, unread, opened_of, used_of, to_front_of}

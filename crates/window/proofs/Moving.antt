@@ -1,5 +1,6 @@
 -- Bytes that go to the front of a room, one by one. Assumes nothing.
-use Rattle.ground.specs.Kit.{◌≡◌, List, ◌++◌, ℕ, ◌+◌, ◌<◌, ◌≤◌, zero-add, add-one, add_comm, arith, length, take, drop, set, get_or, length-drop, drop-paste, paste-suc, length-paste}
+use Rattle.std.specs.Prelude.{◌≡◌, ◌++◌, ◌+◌, ◌<◌, ◌≤◌}
+use Rattle.ground.specs.Kit.{List, ℕ, zero-add, add-one, add_comm, arith, length, take, drop, set, get_or, length-drop, drop-paste, paste-suc, length-paste}
 use lib.Seq.{get_or-drop}
 
 -- so many of them have gone

@@ -1,5 +1,6 @@
 -- In whatever parts the bytes come, the same is said of them. Assumes nothing.
-use Rattle.ground.specs.Kit.{◌≡◌, refl, sym, ap, ◌∙◌, Bool, true, false, cond, not, false≢true, true≢false, List, [], ◌∷◌, ◌++◌, append-nil, append_assoc, ℕ, zero, suc, ◌+◌, ◌-◌, ◌<◌, ◌≤◌, min, arith, eqb-true, eqb-false, eqb, length, take, drop, get_or, length-append, length-take, length-drop, take-append-drop, drop-append_seam, drop-append-le}
+use Rattle.std.specs.Prelude.{◌≡◌, ◌∷◌, ◌++◌, ◌+◌, ◌-◌, ◌<◌, ◌≤◌}
+use Rattle.ground.specs.Kit.{refl, sym, ap, ◌∙◌, Bool, true, false, cond, not, false≢true, true≢false, List, [], append-nil, append_assoc, ℕ, zero, suc, min, arith, eqb-true, eqb-false, eqb, length, take, drop, get_or, length-append, length-take, length-drop, take-append-drop, drop-append_seam, drop-append-le}
 use Rattle.window.specs.Streams.{Turn, Machine, Closing, says_from, brings, reading, Steady, AnyParts}
 
 -- the first bytes of an input and those behind them

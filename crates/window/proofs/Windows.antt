@@ -1,5 +1,6 @@
 -- The unread bytes, where the ends of the window lie within the room. Assumes nothing.
-use Rattle.ground.specs.Kit.{◌≡◌, refl, Bool, true, false, List, ℕ, ◌-◌, min, arith, leb-true, leb-false, leb, length, take, drop, length-take, length-drop, take-append-drop, take-append_seam}
+use Rattle.std.specs.Prelude.{◌≡◌, ◌-◌}
+use Rattle.ground.specs.Kit.{refl, Bool, true, false, List, ℕ, min, arith, leb-true, leb-false, leb, length, take, drop, length-take, length-drop, take-append-drop, take-append_seam}
 use Rattle.window.specs.declared.{Window.Window}
 use Rattle.window.specs.Windows.{unread, within_of, held, to_front_of}
 use Rattle.window.specs.Holding.{Open, WithinUnread}

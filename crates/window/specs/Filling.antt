@@ -1,5 +1,6 @@
 -- A room filled from its front, in however many reads.
-use Rattle.ground.specs.Kit.{◌≡◌, cond, ◌||◌, List, ℕ, zero, suc, ◌+◌, ◌-◌, ◌≤◌, min, leb, length, take, drop, get_or}
+use Rattle.std.specs.Prelude.{◌≡◌, ◌||◌, ◌+◌, ◌-◌, ◌≤◌}
+use Rattle.ground.specs.Kit.{cond, List, ℕ, zero, suc, min, leb, length, take, drop, get_or}
 use Rattle.window.specs.declared.{Window.Window}
 use Rattle.window.specs.Windows.{Held, held, opened_of}
 use Rattle.window.specs.Streams.{brings}

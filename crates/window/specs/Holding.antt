@@ -1,7 +1,7 @@
 -- What is unread after each function, and what a window holds of the bytes that came; proved in `proofs/`, `UsedUnread` as `used_unread`.
-use Rattle.ground.specs.Kit.{◌≡◌, Bool, List, [], ◌++◌, ℕ, ◌+◌, ◌≤◌, min, length, take, drop}
+use Rattle.std.specs.Prelude.{◌≡◌, ◌++◌, ◌+◌, ◌≤◌, ℤ}
+use Rattle.ground.specs.Kit.{Bool, List, [], ℕ, min, length, take, drop}
 use Rattle.window.specs.declared.{Window.Window}
-use Rattle.std.specs.Prelude.{ℤ}
 use Rattle.window.specs.Windows.{unread, opened_of, used_of, within_of, to_front_of, settled_of, brought_of, came_of}
 
 -- both ends lie within the room

@@ -1,7 +1,7 @@
 -- The loop of a program over a window: a turn of any machine on what is unread, and a read where one is due.
-use Rattle.ground.specs.Kit.{◌≡◌, cond, List, [], ◌++◌, ℕ, zero, suc, ◌+◌, ◌-◌, ◌≤◌, length, take, drop, get_or}
+use Rattle.std.specs.Prelude.{◌≡◌, ◌++◌, ◌+◌, ◌-◌, ◌≤◌, pos}
+use Rattle.ground.specs.Kit.{cond, List, [], ℕ, zero, suc, length, take, drop, get_or}
 use Rattle.window.specs.declared.{Window.Window}
-use Rattle.std.specs.Prelude.{pos}
 use Rattle.window.specs.Windows.{Held, held, unread, opened_of, used_of, within_of, due_of, settled_of, came_of}
 use Rattle.window.specs.Streams.{Turn, Machine, Closing, brings, Steady, saying, says_of, reading}
 use Rattle.window.specs.Holding.{Open}

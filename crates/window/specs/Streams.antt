@@ -1,5 +1,6 @@
 -- Bytes that come in parts, read by any machine that takes records off their front.
-use Rattle.ground.specs.Kit.{◌≡◌, Bool, true, false, cond, not, List, [], ◌++◌, ℕ, zero, suc, ◌+◌, ◌-◌, ◌<◌, ◌≤◌, min, eqb, length, take, drop, get_or}
+use Rattle.std.specs.Prelude.{◌≡◌, ◌++◌, ◌+◌, ◌-◌, ◌<◌, ◌≤◌}
+use Rattle.ground.specs.Kit.{Bool, true, false, cond, not, List, [], ℕ, zero, suc, min, eqb, length, take, drop, get_or}
 
 -- what a machine does with the bytes that have come: it waits for more, or takes a record, which may stop it, says something, and remembers
 pub record Turn (S : Type 0) : Type 0 where

@@ -1,7 +1,7 @@
 -- The window on bytes that come a part at a time: of a lent room, the bytes from `from` up to `upto` have come and are not yet used.
-use Rattle.ground.specs.Kit.{Bool, false, cond, not, ◌&&◌, List, ◌++◌, ℕ, ◌+◌, ◌-◌, min, length, take, drop}
+use Rattle.std.specs.Prelude.{◌&&◌, ◌++◌, ◌+◌, ◌-◌, ℤ, pos, negsuc}
+use Rattle.ground.specs.Kit.{Bool, false, cond, not, List, ℕ, min, length, take, drop}
 use Rattle.window.specs.declared.{Window.Window}
-use Rattle.std.specs.Prelude.{ℤ, pos, negsuc}
 use Rattle.std.specs.Int.Signed.{le_z}
 
 abbrev pub unread : Window → List ℕ → List ℕ

@@ -1,11 +1,14 @@
 // The window on bytes that come a part at a time.
-ghost use Rattle.ground.specs.Kit.{◌≡◌, ◌++◌, ◌+◌, ◌-◌, ◌≤◌, length, take, drop};
+#![tactic(auto)]
+
+ghost use Rattle.std.specs.Prelude.{◌≡◌, ◌++◌, ◌+◌, ◌-◌, ◌≤◌};
+ghost use Rattle.ground.specs.Kit.{length, take, drop};
 ghost use Rattle.window.specs.Windows.{opened_of, used_of, within_of, held, to_front_of, due_of, settled_of, brought_of, came_of};
 
 use ground::least;
 
 // Of a lent room, the bytes from `from` up to `upto` have come and are not yet used.
-#[derive(Drop)]
+#[derive(Clone, Copy)]
 pub struct Window {
     pub from: usize,
     pub upto: usize,
