@@ -1,9 +1,16 @@
 // Compares two images of a disc, and lists the blocks that differ.
-ghost use Rattle.ground.specs.Kit.{◌≡◌, false, cond, eqb, ◌+◌, ◌^◌, ◌<◌, ◌≤◌, length};
+#![tactic(auto)]
+
+ghost use Rattle.std.specs.Prelude.{◌≡◌, ◌+◌, ◌^◌, ◌<◌, ◌≤◌};
+ghost use Rattle.ground.specs.Kit.{false, cond, eqb, length};
 ghost use Rattle.window.specs.Filling.{missing};
 
 use disc::BytePlace;
-use shell::Argument;
+use shell::{Argument, Voice};
+use std::fs::File;
+use std::io;
+use std::io::{Read as _, Seek, SeekFrom};
+use std::process::ExitCode;
 use window::Window;
 
 // So much of each image is in memory at a time: half of the smallest disc.
@@ -15,7 +22,7 @@ const TEXT_BYTES: usize = 2880;
 // A file that is open for reading.
 #[derive(Drop)]
 struct Image {
-    descriptor: i32,
+    file: Option<File>,
     // 0 where it was not asked for, or can't be told, which has been said
     length: usize,
     // its name has so many bytes at the start of a room
@@ -24,71 +31,78 @@ struct Image {
 
 fn no_image() -> Image {
     Image {
-        descriptor: -1,
+        file: None,
         length: 0,
         name: 0,
     }
 }
 
-// How long a file is, below 0 where the system does not say. A device has an end, too.
-fn end_of(descriptor: i32) -> i64 {
-    if descriptor < 0 {
-        return -1;
-    }
-    libc::lseek(descriptor, 0, libc::SEEK_END)
-}
-
-fn length_of(end: i64) -> usize {
-    if end > 0 { end as usize } else { 0 }
-}
-
-fn open_named(name: &[u8]) -> Image {
-    let descriptor = os::open_read(name);
-    let end = end_of(descriptor);
-    if end < 0 {
-        shell::complain(b"compare", name);
-    }
-    Image {
-        descriptor: descriptor,
-        length: length_of(end),
+// A file, and how long it is, where the system says it. A device has an end, too.
+fn opened(rt: HostRuntime, name: &[u8]) -> io::Result<Image> {
+    let mut file = shell::open_file(rt, name)?;
+    let end = file.seek(SeekFrom::End(0))?;
+    Ok(Image {
+        file: Some(file),
+        length: end as usize,
         name: name.len(),
+    })
+}
+
+fn open_named(voice: &mut Voice, name: &[u8]) -> Image {
+    match opened(voice.rt, name) {
+        Ok(image) => image,
+        Err(error) => {
+            shell::complain(voice, b"compare", name, error);
+            no_image()
+        }
     }
 }
 
 // The file that an argument names, if it is wanted.
-fn open(wanted: bool, file: usize, name: &mut [u8]) -> Image {
+fn open(voice: &mut Voice, wanted: bool, file: usize, name: &mut [u8]) -> Image {
     if !wanted {
         return no_image();
     }
-    let told = shell::given(file, name);
+    let told = shell::given(voice.rt, file, name);
     match told {
-        Argument::Given(n) => open_named(&name[..n]),
+        Argument::Given(n) => open_named(voice, &name[..n]),
         _ => {
-            shell::complain(b"compare", b"the file's name");
+            shell::complain(voice, b"compare", b"the file's name", shell::too_long());
             no_image()
         }
     }
 }
 
 // The disc that the third argument names, 0 for none.
-fn disc_asked() -> u8 {
+fn disc_asked(rt: HostRuntime) -> u8 {
     let mut room = [0u8; shell::NAME_BYTES];
-    let told = shell::given(3, &mut room);
+    let told = shell::given(rt, 3, &mut room);
     match told {
         Argument::Given(n) => listing::disc_of(&room[..n]),
         _ => 0,
     }
 }
 
-// A window, and whether the read failed.
-#[derive(Drop)]
+// A window, and why the read failed.
+#[derive(Clone, Copy)]
 struct Read {
     window: Window,
-    failed: bool,
+    failed: Option<io::Error>,
+}
+
+// One read of an image from a place on.
+fn read_at(image: &mut Image, place: usize, room: &mut [u8]) -> io::Result<usize> {
+    match &mut image.file {
+        Some(file) => {
+            file.seek(SeekFrom::Start(place as u64))?;
+            file.read(room)
+        }
+        None => Ok(0),
+    }
 }
 
 // One read behind the bytes of an image that have come.
-fn read_on(image: Image, place: BytePlace, window: Window, room: &mut [u8]) -> Read
+fn read_on(image: &mut Image, place: BytePlace, window: Window, room: &mut [u8]) -> Read
     requires room_bound { place.0 + length room.old ≤ 2 ^ 62 }
     requires upto_in_bounds { window.upto < length room.old }
     requires ended_value { window.ended ≡ false }
@@ -96,56 +110,69 @@ fn read_on(image: Image, place: BytePlace, window: Window, room: &mut [u8]) -> R
     ensures room_bound_2 { missing result.window (length room.new) < missing window (length room.old) }
 {
     let upto = window.upto;
-    let got = libc::pread(image.descriptor, &mut room[upto..], (place.0 + upto) as i64);
+    let told = read_at(image, place.0 + upto, &mut room[upto..]);
     Read {
-        window: window::came(window, got, room),
-        failed: got < 0,
+        window: window::came(window, shell::got(&told), room),
+        failed: told.err(),
     }
 }
 
 // The room is filled with the bytes of an image from a place on, or what is wrong has been said.
-fn fill(image: Image, place: BytePlace, room: &mut [u8], name: &[u8]) -> bool
+fn fill(
+    voice: &mut Voice,
+    image: &mut Image,
+    place: BytePlace,
+    room: &mut [u8],
+    name: &[u8],
+) -> bool
     requires { place.0 + length room.old ≤ 2 ^ 62 }
 {
     let mut read = Read {
         window: window::opened(),
-        failed: false,
+        failed: None,
     };
     while !read.window.ended & (read.window.upto < room.len()) {
         read = read_on(image, place, read.window, room);
     }
     let whole = read.window.upto == room.len();
     if !whole {
-        short(image, read.failed, name);
+        short(voice, image, read.failed, name);
     }
     whole
 }
 
 // The first n bytes of the room are filled.
-fn fill_first(n: usize, image: Image, place: BytePlace, room: &mut [u8], name: &[u8]) -> bool
+fn fill_first(
+    voice: &mut Voice,
+    n: usize,
+    image: &mut Image,
+    place: BytePlace,
+    room: &mut [u8],
+    name: &[u8],
+) -> bool
     requires n_bound { place.0 + n ≤ 2 ^ 62 }
     requires n_in_bounds { n ≤ length room.old }
 {
-    fill(image, place, &mut room[..n], name)
+    fill(voice, image, place, &mut room[..n], name)
 }
 
-fn short(image: Image, failed: bool, name: &[u8]) {
+fn short(voice: &mut Voice, image: &Image, failed: Option<io::Error>, name: &[u8]) {
     let n = ground::least(image.name, name.len());
-    if failed {
-        shell::trouble_with(b"compare", &name[..n]);
-    } else {
-        shell::trouble_for(
+    match failed {
+        Some(error) => shell::trouble_with(voice, b"compare", &name[..n], error),
+        None => shell::trouble_for(
+            voice,
             b"compare",
             &name[..n],
             b": became shorter while it was read\n",
-        );
+        ),
     }
 }
 
 // The text of a part goes out whole, or the comparison has to stop.
-fn print(length: usize, text: &[u8]) -> bool {
+fn print(voice: &mut Voice, length: usize, text: &[u8]) -> bool {
     let n = ground::least(length, text.len());
-    shell::print(b"compare", &text[..n])
+    shell::print(voice, b"compare", &text[..n])
 }
 
 fn status(total: usize) -> u8
@@ -158,7 +185,14 @@ fn status(total: usize) -> u8
     }
 }
 
-fn compare(number: u8, first: Image, second: Image, first_name: &[u8], second_name: &[u8]) {
+fn compare(
+    voice: &mut Voice,
+    number: u8,
+    first: &mut Image,
+    second: &mut Image,
+    first_name: &[u8],
+    second_name: &[u8],
+) {
     let mut first_room = [0u8; ROOM_BYTES];
     let mut second_room = [0u8; ROOM_BYTES];
     let mut text = [0u8; TEXT_BYTES];
@@ -167,37 +201,51 @@ fn compare(number: u8, first: Image, second: Image, first_name: &[u8], second_na
         let block = run.block;
         let place = disc::place_of(number, block);
         let n = listing::due(number, block, ROOM_BYTES);
-        if !fill_first(n, first, place, &mut first_room, first_name) {
+        if !fill_first(voice, n, first, place, &mut first_room, first_name) {
             return;
         }
-        if !fill_first(n, second, place, &mut second_room, second_name) {
+        if !fill_first(voice, n, second, place, &mut second_room, second_name) {
             return;
         }
         let next = listing::turn(number, run, &first_room[..n], &second_room[..n], &mut text);
-        if !print(next.length, &text) {
+        if !print(voice, next.length, &text) {
             return;
         }
         run = next;
     }
-    shell::end(status(run.total));
+    shell::end(voice, status(run.total));
 }
 
-fn main() {
-    if os::arg_count() != 4 {
-        shell::trouble(b"compare: usage: compare FIRST SECOND NUMBER\n");
+fn start(voice: &mut Voice) {
+    if !shell::is_given(voice.rt, 3) | shell::is_given(voice.rt, 4) {
+        shell::trouble(voice, b"compare: usage: compare FIRST SECOND NUMBER\n");
         return;
     }
     let mut first_name = [0u8; shell::NAME_BYTES];
     let mut second_name = [0u8; shell::NAME_BYTES];
     let mut line = [0u8; 16];
-    let number = disc_asked();
+    let number = disc_asked(voice.rt);
     let size = disc::disc_bytes(number);
-    let first = open(number != 0, 1, &mut first_name);
-    let second = open((number != 0) & (first.length == size), 2, &mut second_name);
+    let mut first = open(voice, number != 0, 1, &mut first_name);
+    let wanted = (number != 0) & (first.length == size);
+    let mut second = open(voice, wanted, 2, &mut second_name);
     let refused = listing::put_refusal(number, first.length, second.length, &mut line);
     if refused == 0 {
-        compare(number, first, second, &first_name, &second_name);
-    } else if print(refused, &line) {
-        shell::end(shell::TROUBLE);
+        compare(
+            voice,
+            number,
+            &mut first,
+            &mut second,
+            &first_name,
+            &second_name,
+        );
+    } else if print(voice, refused, &line) {
+        shell::end(voice, shell::TROUBLE);
     }
+}
+
+fn main(rt: HostRuntime) -> ExitCode {
+    let mut voice = shell::heard(rt);
+    start(&mut voice);
+    shell::exit_code(&voice)
 }

@@ -1,6 +1,7 @@
 // Parameter lists on disc 4 that no command has begun, with what the block buffer then holds; lists in pieces, and broken off.
 use crate::steps::{READ, Step, TEST_UNIT_READY};
 use crate::{say, states, steps};
+use shell::Voice;
 use state::State;
 
 // The state before a turn: made up at some of them, and sound. The writes are there for what they leave in the block buffer.
@@ -41,15 +42,16 @@ fn step(turn: u8) -> Step {
     }
 }
 
-pub(crate) fn all() {
+pub(crate) fn all(voice: &mut Voice) {
     let mut buffer = [0xbbu8; 1025];
     let mut room = [0xd4u8; 1474560];
     let mut state = drive::power_on();
     say::text(
+        voice,
         b"= lists begun in the block buffer, in pieces, with a sense and flags, and broken off\n",
     );
     for turn in 0..22 {
         let before = made_up(turn, state);
-        state = steps::play(step(turn), before, 32768, &mut buffer, &mut room);
+        state = steps::play(voice, step(turn), before, 32768, &mut buffer, &mut room);
     }
 }

@@ -1,6 +1,7 @@
 // Calls on buffers of which so many bytes are lent, each with its line behind the label.
 use crate::entries::Calls;
 use crate::{entries, say};
+use shell::Voice;
 use state::State;
 
 // A packet, a piece, or what a pull fills.
@@ -13,7 +14,7 @@ pub(crate) type Buffer = [u8; 1025];
 pub(crate) type Room = [u8; 1474560];
 
 // How many bytes of each are lent.
-#[derive(Drop)]
+#[derive(Clone, Copy)]
 pub(crate) struct Lent {
     pub(crate) caller: usize,
     pub(crate) buffer: usize,
@@ -22,24 +23,26 @@ pub(crate) struct Lent {
 
 // What was lent is shown as the calls left it.
 fn line(
+    voice: &mut Voice,
     calls: Calls,
     state: State,
     caller: &mut [u8],
     buffer: &mut [u8],
     disc: &mut [u8],
 ) -> State {
-    say::text(b":");
-    let after = entries::called(calls, state, caller, buffer, disc);
-    say::rest(after);
-    say::bytes(caller);
-    say::bytes(buffer);
-    say::bytes(disc);
-    say::text(b"\n");
+    say::text(voice, b":");
+    let after = entries::called(voice, calls, state, caller, buffer, disc);
+    say::rest(voice, after);
+    say::bytes(voice, caller);
+    say::bytes(voice, buffer);
+    say::bytes(voice, disc);
+    say::text(voice, b"\n");
     after
 }
 
 // Lends so many bytes of each, or all there are.
 fn lend(
+    voice: &mut Voice,
     calls: Calls,
     state: State,
     lent: Lent,
@@ -51,6 +54,7 @@ fn lend(
     let block = ground::least(lent.buffer, buffer.len());
     let disc = ground::least(lent.disc, room.len());
     line(
+        voice,
         calls,
         state,
         &mut caller[..own],
@@ -61,6 +65,7 @@ fn lend(
 
 // The same of arrays, whose lengths no proof has to follow.
 pub(crate) fn call(
+    voice: &mut Voice,
     calls: Calls,
     state: State,
     lent: Lent,
@@ -68,11 +73,12 @@ pub(crate) fn call(
     buffer: &mut Buffer,
     room: &mut Room,
 ) -> State {
-    lend(calls, state, lent, caller, buffer, room)
+    lend(voice, calls, state, lent, caller, buffer, room)
 }
 
 // Calls on fresh buffers. The caller's is an INQUIRY where it is a packet.
 pub(crate) fn fresh(
+    voice: &mut Voice,
     label: &[u8],
     calls: Calls,
     state: State,
@@ -90,6 +96,14 @@ pub(crate) fn fresh(
     };
     packet[0] = 0x12;
     packet[4] = 0x24;
-    say::text(label);
-    call(calls, state, lent, &mut packet, &mut block, &mut room);
+    say::text(voice, label);
+    call(
+        voice,
+        calls,
+        state,
+        lent,
+        &mut packet,
+        &mut block,
+        &mut room,
+    );
 }

@@ -3,6 +3,7 @@ use crate::steps::{
     MODE_SENSE, READ, READ_CAPACITY, READ_FORMAT_CAPACITIES, Step, TEST_UNIT_READY, WRITE,
 };
 use crate::{say, steps};
+use shell::Voice;
 
 // `first` is the first of the last two blocks, and a piece is 24 bytes shorter than a block.
 fn step(turn: u8, number: u8, first: u16, piece: usize) -> Step {
@@ -28,13 +29,20 @@ fn step(turn: u8, number: u8, first: u16, piece: usize) -> Step {
 }
 
 // A disc of zeros, of so many bytes.
-pub(crate) fn in_use(title: &[u8], number: u8, disc: usize, first: u16, piece: usize) {
+pub(crate) fn in_use(
+    voice: &mut Voice,
+    title: &[u8],
+    number: u8,
+    disc: usize,
+    first: u16,
+    piece: usize,
+) {
     let mut buffer = [0xbbu8; 1025];
     let mut room = [0u8; 1474560];
     let mut state = drive::power_on();
-    say::text(title);
+    say::text(voice, title);
     for turn in 0..18 {
         let next = step(turn, number, first, piece);
-        state = steps::play(next, state, disc, &mut buffer, &mut room);
+        state = steps::play(voice, next, state, disc, &mut buffer, &mut room);
     }
 }

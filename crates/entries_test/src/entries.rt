@@ -1,9 +1,10 @@
 // The entries of the drive, called: the caller's buffer is a command's packet, a feed's piece, or what a pull fills.
 use crate::say;
 use drive::{CommandReply, EventReply, House, MoveReply};
+use shell::Voice;
 use state::{Media, State};
 
-#[derive(Drop)]
+#[derive(Clone, Copy)]
 pub(crate) enum Entry {
     Command,
     Feed,
@@ -13,14 +14,14 @@ pub(crate) enum Entry {
 }
 
 // One entry, or the five one after the other.
-#[derive(Drop)]
+#[derive(Clone, Copy)]
 pub(crate) enum Calls {
     One(Entry),
     Each,
 }
 
 // What any of them answers: only a command passes, and only a feed and a pull move bytes.
-#[derive(Drop)]
+#[derive(Clone, Copy)]
 struct Answer {
     house: House,
     passed: bool,
@@ -78,15 +79,22 @@ fn entered(
 }
 
 // One call: its house number, the triple, the count, and whether it passed.
-fn one(entry: Entry, state: State, caller: &mut [u8], buffer: &mut [u8], disc: &mut [u8]) -> State {
+fn one(
+    voice: &mut Voice,
+    entry: Entry,
+    state: State,
+    caller: &mut [u8],
+    buffer: &mut [u8],
+    disc: &mut [u8],
+) -> State {
     let reply = entered(entry, state, caller, buffer, disc);
     let house = reply.house;
     let after = reply.state;
     let sense = after.host.sense;
-    say::house(house);
-    say::sense(sense);
-    say::count(reply.count);
-    say::flag(reply.passed, b" passed");
+    say::house(voice, house);
+    say::sense(voice, sense);
+    say::count(voice, reply.count);
+    say::flag(voice, reply.passed, b" passed");
     after
 }
 
@@ -104,22 +112,29 @@ fn entry_of(turn: u8) -> Entry {
 }
 
 // The five: the house number of each, and the triple after them.
-fn each(state: State, caller: &mut [u8], buffer: &mut [u8], disc: &mut [u8]) -> State {
+fn each(
+    voice: &mut Voice,
+    state: State,
+    caller: &mut [u8],
+    buffer: &mut [u8],
+    disc: &mut [u8],
+) -> State {
     let mut after = state;
     for turn in 0..5 {
         let reply = entered(entry_of(turn), after, caller, buffer, disc);
         let house = reply.house;
         let next = reply.state;
-        say::house(house);
+        say::house(voice, house);
         after = next;
     }
     let sense = after.host.sense;
-    say::sense(sense);
+    say::sense(voice, sense);
     after
 }
 
 // The answer is the state after the calls.
 pub(crate) fn called(
+    voice: &mut Voice,
     calls: Calls,
     state: State,
     caller: &mut [u8],
@@ -127,7 +142,7 @@ pub(crate) fn called(
     disc: &mut [u8],
 ) -> State {
     match calls {
-        Calls::One(entry) => one(entry, state, caller, buffer, disc),
-        Calls::Each => each(state, caller, buffer, disc),
+        Calls::One(entry) => one(voice, entry, state, caller, buffer, disc),
+        Calls::Each => each(voice, state, caller, buffer, disc),
     }
 }

@@ -1,10 +1,11 @@
 // Discs 1 to 3 formatted: each side of the first and of the last track, and all blocks; lists that are refused, and protection.
 use crate::steps::{READ, Step, WRITE};
 use crate::{say, states, steps};
+use shell::Voice;
 use state::{State, Transfer};
 
 // The blocks and the block length that a list names.
-#[derive(Drop)]
+#[derive(Clone, Copy)]
 struct Descriptor {
     blocks: u16,
     size: u16,
@@ -69,16 +70,16 @@ fn list(round: u8, number: u8) -> Step {
 }
 
 // Tracks of a disc of so many bytes, and lists that are refused for a track as it was.
-fn tracks(title: &[u8], number: u8, disc: usize, last: u8) {
+fn tracks(voice: &mut Voice, title: &[u8], number: u8, disc: usize, last: u8) {
     let mut buffer = [0xbbu8; 1025];
     let mut room = [0xd4u8; 1474560];
     let mut state = states::plain(number, false, Transfer::Closed);
-    say::text(title);
+    say::text(voice, title);
     for round in 0..14 {
         let first = command(round, last);
-        let open = steps::play(first, state, disc, &mut buffer, &mut room);
+        let open = steps::play(voice, first, state, disc, &mut buffer, &mut room);
         let then = list(round, number);
-        state = steps::play(then, open, disc, &mut buffer, &mut room);
+        state = steps::play(voice, then, open, disc, &mut buffer, &mut room);
     }
 }
 
@@ -110,35 +111,56 @@ fn step(turn: u8, number: u8, last: u8) -> Step {
     }
 }
 
-fn whole(title: &[u8], number: u8, disc: usize, last: u8) {
+fn whole(voice: &mut Voice, title: &[u8], number: u8, disc: usize, last: u8) {
     let mut buffer = [0xbbu8; 1025];
     let mut room = [0xd4u8; 1474560];
     let mut state = drive::power_on();
-    say::text(title);
+    say::text(voice, title);
     for turn in 0..11 {
         let before = made_up(turn, number, state);
         let next = step(turn, number, last);
-        state = steps::play(next, before, disc, &mut buffer, &mut room);
+        state = steps::play(voice, next, before, disc, &mut buffer, &mut room);
     }
 }
 
-pub(crate) fn all() {
-    tracks(b"= disc 1, tracks of 9 blocks formatted\n", 1, 737280, 79);
+pub(crate) fn all(voice: &mut Voice) {
+    tracks(
+        voice,
+        b"= disc 1, tracks of 9 blocks formatted\n",
+        1,
+        737280,
+        79,
+    );
     whole(
+        voice,
         b"= disc 1, protected, then all of it formatted\n",
         1,
         737280,
         79,
     );
-    tracks(b"= disc 2, tracks of 8 blocks formatted\n", 2, 1261568, 76);
+    tracks(
+        voice,
+        b"= disc 2, tracks of 8 blocks formatted\n",
+        2,
+        1261568,
+        76,
+    );
     whole(
+        voice,
         b"= disc 2, protected, then all of it formatted\n",
         2,
         1261568,
         76,
     );
-    tracks(b"= disc 3, tracks of 18 blocks formatted\n", 3, 1474560, 79);
+    tracks(
+        voice,
+        b"= disc 3, tracks of 18 blocks formatted\n",
+        3,
+        1474560,
+        79,
+    );
     whole(
+        voice,
         b"= disc 3, protected, then all of it formatted\n",
         3,
         1474560,

@@ -1,6 +1,7 @@
 // Transfers that no command opens, and pieces longer than a block of 512.
 use crate::steps::{Step, TEST_UNIT_READY};
 use crate::{say, states, steps};
+use shell::Voice;
 use state::State;
 
 // The state before a turn: made up at five of them, and sound.
@@ -29,15 +30,16 @@ fn step(turn: u8) -> Step {
     }
 }
 
-pub(crate) fn all() {
+pub(crate) fn all(voice: &mut Voice) {
     let mut buffer = [0xbbu8; 1025];
     let mut room = [0xd4u8; 1474560];
     let mut state = drive::power_on();
     say::text(
+        voice,
         b"= a write and a read inside blocks, an answer behind byte 40, both over three blocks\n",
     );
     for turn in 0..10 {
         let before = made_up(turn, state);
-        state = steps::play(step(turn), before, 32768, &mut buffer, &mut room);
+        state = steps::play(voice, step(turn), before, 32768, &mut buffer, &mut room);
     }
 }

@@ -4,6 +4,8 @@
 // caller's buffer, the block buffer and the disc, each as the call left it. An open transfer is its place, a list its track, `+` the bytes
 // left, and `xx*N` is a byte N times. In the section of unsound states such a state goes to all five entries, and has their five house
 // numbers and no count.
+#![tactic(auto)]
+
 mod begun;
 mod calls;
 mod discs;
@@ -16,17 +18,26 @@ mod soundness;
 mod states;
 mod steps;
 
-fn main() {
-    if !shell::is_alone(b"entries_test: usage: entries_test\n") {
+use shell::Voice;
+use std::process::ExitCode;
+
+fn run(voice: &mut Voice) {
+    if !shell::is_alone(voice, b"entries_test: usage: entries_test\n") {
         return;
     }
-    discs::in_use(b"= disc 1, blocks of 512\n", 1, 737280, 1438, 488);
-    discs::in_use(b"= disc 2, blocks of 1024\n", 2, 1261568, 1230, 1000);
-    discs::in_use(b"= disc 3, blocks of 512\n", 3, 1474560, 2878, 488);
-    formats::all();
-    refusals::all();
-    soundness::all();
-    inside::all();
-    begun::all();
-    shell::end(shell::AS_HOPED);
+    discs::in_use(voice, b"= disc 1, blocks of 512\n", 1, 737280, 1438, 488);
+    discs::in_use(voice, b"= disc 2, blocks of 1024\n", 2, 1261568, 1230, 1000);
+    discs::in_use(voice, b"= disc 3, blocks of 512\n", 3, 1474560, 2878, 488);
+    formats::all(voice);
+    refusals::all(voice);
+    soundness::all(voice);
+    inside::all(voice);
+    begun::all(voice);
+    shell::end(voice, shell::AS_HOPED);
+}
+
+fn main(rt: HostRuntime) -> ExitCode {
+    let mut voice = shell::heard(rt);
+    run(&mut voice);
+    shell::exit_code(&voice)
 }

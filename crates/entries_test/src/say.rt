@@ -1,89 +1,98 @@
 // What a line says, part by part: each part starts with a space, but for a plain text.
-ghost use Rattle.ground.specs.Kit.{◌<◌, ◌≤◌, length};
+ghost use Rattle.std.specs.Prelude.{◌<◌, ◌≤◌};
+ghost use Rattle.ground.specs.Kit.{length};
 
 use drive::House;
-use libc::STDOUT_FILENO;
+use shell::Voice;
 use state::{Sense, State, Transfer};
 
+// The longest number that a line has.
+const DIGITS: usize = 20;
+
 // The first that can't be printed is the last that is heard of the test.
-fn printed(whole: bool) {
+fn printed(voice: &mut Voice, whole: bool) {
     if !whole {
-        shell::trouble_with(b"entries_test", b"standard output");
-        shell::fall_silent();
+        shell::fall_silent(voice);
     }
 }
 
-pub(crate) fn text(text: &[u8]) {
-    printed(io::write_all(STDOUT_FILENO, text));
+pub(crate) fn text(voice: &mut Voice, text: &[u8]) {
+    let whole = shell::print(voice, b"entries_test", text);
+    printed(voice, whole);
 }
 
-fn decimal(n: usize) {
-    printed(io::print_decimal(STDOUT_FILENO, n as u64));
+fn decimal(voice: &mut Voice, n: usize) {
+    let mut digits = [0u8; DIGITS];
+    let end = text::put_decimal(&mut digits, 0, n as u64);
+    let length = ground::least(end, DIGITS);
+    text(voice, &digits[..length]);
 }
 
-fn hex(b: u8) {
-    text(b" ");
-    printed(io::print_hex(STDOUT_FILENO, b as u64, 2));
+fn hex(voice: &mut Voice, b: u8) {
+    let mut digits = [0u8; 2];
+    text::put_hex(&mut digits, 0, b);
+    text(voice, b" ");
+    text(voice, &digits);
 }
 
-pub(crate) fn count(n: usize) {
-    text(b" ");
-    decimal(n);
+pub(crate) fn count(voice: &mut Voice, n: usize) {
+    text(voice, b" ");
+    decimal(voice, n);
 }
 
 // The house number.
-pub(crate) fn house(house: House) {
-    count(drive::number_of(house) as usize);
+pub(crate) fn house(voice: &mut Voice, house: House) {
+    count(voice, drive::number_of(house) as usize);
 }
 
-pub(crate) fn sense(sense: Sense) {
-    hex(sense.0);
-    hex(sense.1);
-    hex(sense.2);
+pub(crate) fn sense(voice: &mut Voice, sense: Sense) {
+    hex(voice, sense.0);
+    hex(voice, sense.1);
+    hex(voice, sense.2);
 }
 
-pub(crate) fn flag(set: bool, name: &[u8]) {
+pub(crate) fn flag(voice: &mut Voice, set: bool, name: &[u8]) {
     if set {
-        text(name);
+        text(voice, name);
     }
 }
 
 // An open transfer by its name, its place (a list has its track) and the bytes that are left.
-fn span(name: &[u8], at: usize, left: usize) {
-    text(name);
-    decimal(at);
-    text(b"+");
-    decimal(left);
+fn span(voice: &mut Voice, name: &[u8], at: usize, left: usize) {
+    text(voice, name);
+    decimal(voice, at);
+    text(voice, b"+");
+    decimal(voice, left);
 }
 
-fn transfer(transfer: Transfer) {
+fn transfer(voice: &mut Voice, transfer: Transfer) {
     match transfer {
         Transfer::Closed => {}
-        Transfer::Answer(p) => span(b" answer ", p.at, p.left),
-        Transfer::Read(p) => span(b" read ", p.at.0, p.left),
-        Transfer::Write(p) => span(b" write ", p.at.0, p.left),
-        Transfer::ParameterList(p) => span(b" list ", p.track as usize, p.left),
+        Transfer::Answer(p) => span(voice, b" answer ", p.at, p.left),
+        Transfer::Read(p) => span(voice, b" read ", p.at.0, p.left),
+        Transfer::Write(p) => span(voice, b" write ", p.at.0, p.left),
+        Transfer::ParameterList(p) => span(voice, b" list ", p.track as usize, p.left),
     }
 }
 
 // The state without its triple: the disc, the flags that are set, and what is open.
-pub(crate) fn rest(state: State) {
+pub(crate) fn rest(voice: &mut Voice, state: State) {
     let open = state.transfer;
-    text(b" | disc");
-    count(state.media.disc as usize);
-    flag(state.media.protected, b" protected");
-    flag(state.motor, b" motor");
-    flag(state.host.power, b" power");
-    flag(state.host.change, b" change");
-    transfer(open);
+    text(voice, b" | disc");
+    count(voice, state.media.disc as usize);
+    flag(voice, state.media.protected, b" protected");
+    flag(voice, state.motor, b" motor");
+    flag(voice, state.host.power, b" power");
+    flag(voice, state.host.change, b" change");
+    transfer(voice, open);
 }
 
 // A byte, with a count where it stands more than once.
-fn run(b: u8, times: usize) {
-    hex(b);
+fn run(voice: &mut Voice, b: u8, times: usize) {
+    hex(voice, b);
     if 1 < times {
-        text(b"*");
-        decimal(times);
+        text(voice, b"*");
+        decimal(voice, times);
     }
 }
 
@@ -101,12 +110,12 @@ fn run_end(bytes: &[u8], at: usize) -> usize
 }
 
 // All bytes of a buffer, behind a bar.
-pub(crate) fn bytes(bytes: &[u8]) {
-    text(b" |");
+pub(crate) fn bytes(voice: &mut Voice, bytes: &[u8]) {
+    text(voice, b" |");
     let mut at = 0;
     while at < bytes.len() {
         let end = run_end(bytes, at);
-        run(bytes[at], end - at);
+        run(voice, bytes[at], end - at);
         at = end;
     }
 }

@@ -2,6 +2,7 @@
 use crate::calls::{Buffer, Caller, Lent, Room};
 use crate::entries::{Calls, Entry};
 use crate::{calls, say};
+use shell::Voice;
 use state::{Media, State};
 
 pub(crate) const TEST_UNIT_READY: u8 = 0x00;
@@ -19,7 +20,7 @@ pub(crate) const WRITE: u8 = 0x2a;
 pub(crate) const MODE_SENSE: u8 = 0x5a;
 
 // An entry, and the first bytes of the caller's buffer that it is lent.
-#[derive(Drop)]
+#[derive(Clone, Copy)]
 pub(crate) struct Step {
     entry: Entry,
     caller: Caller,
@@ -113,29 +114,30 @@ pub(crate) fn pull(count: usize) -> Step {
     }
 }
 
-fn command_name(code: u8) {
+fn command_name(voice: &mut Voice, code: u8) {
     match code {
-        TEST_UNIT_READY => say::text(b"TEST UNIT READY"),
-        FORMAT_UNIT => say::text(b"FORMAT UNIT"),
-        READ_FORMAT_CAPACITIES => say::text(b"READ FORMAT CAPACITIES"),
-        READ_CAPACITY => say::text(b"READ CAPACITY"),
-        READ => say::text(b"READ"),
-        WRITE => say::text(b"WRITE"),
-        _ => say::text(b"MODE SENSE"),
+        TEST_UNIT_READY => say::text(voice, b"TEST UNIT READY"),
+        FORMAT_UNIT => say::text(voice, b"FORMAT UNIT"),
+        READ_FORMAT_CAPACITIES => say::text(voice, b"READ FORMAT CAPACITIES"),
+        READ_CAPACITY => say::text(voice, b"READ CAPACITY"),
+        READ => say::text(voice, b"READ"),
+        WRITE => say::text(voice, b"WRITE"),
+        _ => say::text(voice, b"MODE SENSE"),
     }
 }
 
-fn name(entry: Entry, first: u8) {
+fn name(voice: &mut Voice, entry: Entry, first: u8) {
     match entry {
-        Entry::Command => command_name(first),
-        Entry::Feed => say::text(b"feed"),
-        Entry::Pull => say::text(b"pull"),
-        Entry::Insert(_) => say::text(b"insert"),
-        Entry::Eject => say::text(b"eject"),
+        Entry::Command => command_name(voice, first),
+        Entry::Feed => say::text(voice, b"feed"),
+        Entry::Pull => say::text(voice, b"pull"),
+        Entry::Insert(_) => say::text(voice, b"insert"),
+        Entry::Eject => say::text(voice, b"eject"),
     }
 }
 
 pub(crate) fn play(
+    voice: &mut Voice,
     step: Step,
     state: State,
     disc: usize,
@@ -149,6 +151,14 @@ pub(crate) fn play(
         buffer: 1024,
         disc: disc,
     };
-    name(entry, caller[0]);
-    calls::call(Calls::One(entry), state, lent, &mut caller, buffer, room)
+    name(voice, entry, caller[0]);
+    calls::call(
+        voice,
+        Calls::One(entry),
+        state,
+        lent,
+        &mut caller,
+        buffer,
+        room,
+    )
 }

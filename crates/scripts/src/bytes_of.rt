@@ -1,5 +1,5 @@
 // Bytes as a text writes them: two digits, or `xx*N` for a byte N times.
-ghost use Rattle.ground.specs.Kit.{◌≤◌};
+ghost use Rattle.std.specs.Prelude.{◌≤◌};
 
 use crate::{Scan, faults, verbs, words};
 use record::HEADER_BYTES;

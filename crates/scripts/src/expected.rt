@@ -1,5 +1,6 @@
 // What records must print, and what comes of it.
 use crate::Script;
+use shell::Voice;
 
 // What is printed has small digits.
 fn small(c: u8) -> u8 {
@@ -25,14 +26,12 @@ fn is_as(line: &[u8], expected: &[u8]) -> bool {
 
 // A printed line is expected whole, or without its number.
 fn agrees(line: &[u8], expected: &[u8]) -> bool {
-    let space = bytes::scan::find(line, 0, line.len(), b' ');
     if is_as(line, expected) {
         return true;
     }
-    if space < line.len() {
-        is_as(&line[space + 1..], expected)
-    } else {
-        false
+    match line.iter().position(|b| *b == b' ') {
+        Some(space) => is_as(&line[space + 1..], expected),
+        None => false,
     }
 }
 
@@ -115,7 +114,7 @@ pub(crate) fn judge(
 }
 
 // Bad records that no line expects, where nothing else tells them from the others.
-fn tell_unexpected(script: Script, expects: bool) -> bool {
+fn tell_unexpected(voice: &mut Voice, script: Script, expects: bool) -> bool {
     if (script.unexpected == 0) | !(expects | script.quiet) {
         return true;
     }
@@ -124,23 +123,23 @@ fn tell_unexpected(script: Script, expects: bool) -> bool {
     let end = text::put_decimal(&mut line, number, script.unexpected);
     let whole = text::put(&mut line, end, b'\n');
     let n = ground::least(whole, line.len());
-    shell::print(b"scripts", &line[..n])
+    shell::print(voice, b"scripts", &line[..n])
 }
 
 // What was not as expected, and the sum, where anything was; whether all could be printed.
-pub(crate) fn sum_up(script: Script, first: &[u8]) -> bool {
+pub(crate) fn sum_up(voice: &mut Voice, script: Script, first: &[u8]) -> bool {
     let expects = (0 < script.passed) | (0 < script.failed);
-    if !tell_unexpected(script, expects) {
+    if !tell_unexpected(voice, script, expects) {
         return false;
     }
     if expects {
-        tell_sum(script, first)
+        tell_sum(voice, script, first)
     } else {
         true
     }
 }
 
-fn tell_sum(script: Script, first: &[u8]) -> bool {
+fn tell_sum(voice: &mut Voice, script: Script, first: &[u8]) -> bool {
     let mut line = [0u8; 64];
     let passed = text::put_decimal(&mut line, 0, script.passed);
     let comma = text::put_all(&mut line, b" passed, ", passed);
@@ -148,8 +147,8 @@ fn tell_sum(script: Script, first: &[u8]) -> bool {
     let end = text::put_all(&mut line, b" failed\n", failed);
     let n = ground::least(end, line.len());
     let difference = ground::least(script.first, first.len());
-    if !shell::print(b"scripts", &first[..difference]) {
+    if !shell::print(voice, b"scripts", &first[..difference]) {
         return false;
     }
-    shell::print(b"scripts", &line[..n])
+    shell::print(voice, b"scripts", &line[..n])
 }

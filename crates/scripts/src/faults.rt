@@ -1,5 +1,6 @@
 // What is wrong with a text, in one line: where, and one cause.
 use crate::Scan;
+use shell::Voice;
 
 pub(crate) const NONE: u8 = 0;
 
@@ -41,7 +42,7 @@ pub(crate) fn at(scan: Scan, fault: u8, from: usize, upto: usize) -> Scan {
     let mut after = scan;
     after.on = false;
     after.fault = fault;
-    after.place = std::num::wrapping_add_u64(scan.starts, from as u64);
+    after.place = scan.starts.wrapping_add(from as u64);
     after.from = from;
     after.upto = upto;
     after
@@ -102,7 +103,7 @@ fn put_shown(line: &mut [u8], at: usize, bytes: &[u8]) -> usize {
 }
 
 // One line on standard error, and the run is over.
-pub(crate) fn report(scan: Scan, word: &[u8]) {
+pub(crate) fn report(voice: &mut Voice, scan: Scan, word: &[u8]) {
     let mut line = [0u8; MESSAGE_BYTES];
     let end_of_word = ground::least(scan.upto, word.len());
     let from = ground::least(scan.from, end_of_word);
@@ -116,5 +117,5 @@ pub(crate) fn report(scan: Scan, word: &[u8]) {
     let end = put_shown(&mut line, shown, &word[from..upto]);
     let whole = text::put(&mut line, end, b'\n');
     let n = ground::least(whole, line.len());
-    shell::trouble(&line[..n]);
+    shell::trouble(voice, &line[..n]);
 }

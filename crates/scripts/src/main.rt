@@ -1,4 +1,6 @@
 // Plays scripts that are written as text (README, "Scripts as text"), and compares the lines of their records with those that the text expects.
+#![tactic(auto)]
+
 mod acts;
 mod bytes_of;
 mod chars;
@@ -9,8 +11,11 @@ mod records;
 mod verbs;
 mod words;
 
-use shell::{Input, Options};
+use shell::{Input, Options, Voice};
 use state::State;
+use std::io;
+use std::io::Read;
+use std::process::ExitCode;
 
 // One word holds the bytes of a pull.
 const WORD_BYTES: usize = 1100;
@@ -40,7 +45,7 @@ type Buffer = [u8; disc::BUFFER_BYTES];
 type Disc = [u8; player::DISC_BYTES];
 
 // Where the text is read, and what its line has said so far.
-#[derive(Drop)]
+#[derive(Clone, Copy)]
 pub(crate) struct Scan {
     // nothing is wrong with the text
     on: bool,
@@ -77,7 +82,7 @@ pub(crate) struct Scan {
     upto: usize,
 }
 
-#[derive(Drop)]
+#[derive(Clone, Copy)]
 pub(crate) struct Script {
     // nothing that it printed was lost
     on: bool,
@@ -102,7 +107,7 @@ pub(crate) struct Script {
     first: usize,
 }
 
-#[derive(Drop)]
+#[derive(Clone, Copy)]
 pub(crate) struct Run {
     scan: Scan,
     script: Script,
@@ -171,6 +176,7 @@ fn status(script: Script) -> u8 {
 
 // What a byte of the text has the script do.
 fn act(
+    voice: &mut Voice,
     scan: Scan,
     script: Script,
     word: &Word,
@@ -184,17 +190,20 @@ fn act(
     let what = scan.act;
     match what {
         acts::BEGIN => records::begun(script),
-        acts::ADD => records::add(script, scan.byte, scan.times, record, line, buffer, disc),
-        acts::PLAY => records::named(script, scan.length, record, line, buffer, disc),
-        acts::CUT => records::cut(script, record, line, buffer, disc),
-        acts::START => records::start(script, record, line, buffer, disc),
-        acts::SHOW => records::show_first(script, word, scan.upto),
+        acts::ADD => records::add(
+            voice, script, scan.byte, scan.times, record, line, buffer, disc,
+        ),
+        acts::PLAY => records::named(voice, script, scan.length, record, line, buffer, disc),
+        acts::CUT => records::cut(voice, script, record, line, buffer, disc),
+        acts::START => records::start(voice, script, record, line, buffer, disc),
+        acts::SHOW => records::show_first(voice, script, word, scan.upto),
         acts::JUDGE => expected::judge(script, scan.place, line, expected, scan.told, first),
         _ => script,
     }
 }
 
 fn step(
+    voice: &mut Voice,
     run: Run,
     c: u8,
     word: &mut Word,
@@ -209,7 +218,7 @@ fn step(
     let script = run.script;
     let scan = chars::take(before, c, 0 < script.have, word, record, expected);
     let after = act(
-        scan, script, word, record, line, expected, first, buffer, disc,
+        voice, scan, script, word, record, line, expected, first, buffer, disc,
     );
     Run {
         scan: scan,
@@ -219,6 +228,7 @@ fn step(
 
 // What was read of the text, byte by byte.
 fn take_part(
+    voice: &mut Voice,
     run: Run,
     room: &Room,
     bytes: usize,
@@ -236,13 +246,16 @@ fn take_part(
     while i < n && is_on(after) {
         let c = room[i];
         i += 1;
-        after = step(after, c, word, record, line, expected, first, buffer, disc);
+        after = step(
+            voice, after, c, word, record, line, expected, first, buffer, disc,
+        );
     }
     after
 }
 
 // The text has ended: the last record is cut short, if it is begun, and the sum is drawn.
 fn sum_up(
+    voice: &mut Voice,
     run: Run,
     word: &Word,
     record: &Record,
@@ -254,50 +267,58 @@ fn sum_up(
     let scan = run.scan;
     let script = run.script;
     if !scan.on {
-        faults::report(scan, word);
+        faults::report(voice, scan, word);
         return;
     }
-    let over = records::cut(script, record, line, buffer, disc);
-    if over.on && expected::sum_up(over, first) {
-        shell::end(status(over));
+    let over = records::cut(voice, script, record, line, buffer, disc);
+    if over.on && expected::sum_up(voice, over, first) {
+        shell::end(voice, status(over));
     }
 }
 
 // What one read brought.
-#[derive(Drop)]
+#[derive(Clone, Copy)]
 struct Part {
-    failed: bool,
+    failed: Option<io::Error>,
     ended: bool,
     bytes: usize,
 }
 
 // A text ends as a line does: where a line is begun, its end brings a line feed.
-fn read_part(descriptor: i32, begun: bool, room: &mut [u8]) -> Part {
-    let got = libc::read(descriptor, room);
-    let bytes = io::count(got, room);
-    let ended = bytes == 0;
-    Part {
-        failed: got < 0,
-        ended: ended,
-        bytes: if ended & begun & (0 <= got) {
-            text::put(room, 0, b'\n')
-        } else {
-            bytes
+fn read_part(input: &mut Input, begun: bool, room: &mut [u8]) -> Part {
+    match input.read(room) {
+        Ok(bytes) => {
+            let ended = bytes == 0;
+            Part {
+                failed: None,
+                ended: ended,
+                bytes: if ended & begun {
+                    text::put(room, 0, b'\n')
+                } else {
+                    bytes
+                },
+            }
+        }
+        Err(error) => Part {
+            failed: Some(error),
+            ended: true,
+            bytes: 0,
         },
     }
 }
 
 // The run after a read: the text has ended, or can't be read.
-#[derive(Drop)]
+#[derive(Clone, Copy)]
 struct Turned {
     run: Run,
     over: bool,
-    failed: bool,
+    failed: Option<io::Error>,
 }
 
 fn turn(
+    voice: &mut Voice,
     run: Run,
-    descriptor: i32,
+    input: &mut Input,
     room: &mut Room,
     word: &mut Word,
     record: &mut Record,
@@ -307,9 +328,9 @@ fn turn(
     buffer: &mut Buffer,
     disc: &mut Disc,
 ) -> Turned {
-    let part = read_part(descriptor, 0 < run.scan.column, room);
+    let part = read_part(input, 0 < run.scan.column, room);
     let next = take_part(
-        run, room, part.bytes, word, record, line, expected, first, buffer, disc,
+        voice, run, room, part.bytes, word, record, line, expected, first, buffer, disc,
     );
     Turned {
         run: next,
@@ -319,7 +340,7 @@ fn turn(
 }
 
 // Reads until the text ends or something stops the run.
-fn play(input: Input, name: &[u8], options: Options) {
+fn play(voice: &mut Voice, input: &mut Input, name: &[u8], options: Options) {
     let mut room = [0u8; READ_BYTES];
     let mut word = [0u8; WORD_BYTES];
     let mut record = [0u8; record::RECORD_BYTES];
@@ -337,8 +358,9 @@ fn play(input: Input, name: &[u8], options: Options) {
     while 0 < turns {
         turns -= 1;
         let told = turn(
+            voice,
             run,
-            input.descriptor,
+            input,
             &mut room,
             &mut word,
             &mut record,
@@ -350,12 +372,13 @@ fn play(input: Input, name: &[u8], options: Options) {
         );
         let next = told.run;
         run = next;
-        if told.failed {
-            shell::unreadable(b"scripts", input, name);
+        if let Some(error) = told.failed {
+            shell::unreadable(voice, b"scripts", input, name, error);
             return;
         }
         if told.over {
             sum_up(
+                voice,
                 run,
                 &word,
                 &record,
@@ -369,15 +392,24 @@ fn play(input: Input, name: &[u8], options: Options) {
     }
 }
 
-fn main() {
-    let options = shell::asked();
+fn start(voice: &mut Voice) {
+    let options = shell::asked(voice.rt);
     if options.wrong {
-        shell::trouble(b"scripts: usage: scripts [--explain] [--quiet] [FILE]\n");
+        shell::trouble(
+            voice,
+            b"scripts: usage: scripts [--explain] [--quiet] [FILE]\n",
+        );
         return;
     }
     let mut name = [0u8; shell::NAME_BYTES];
-    let input = shell::open(b"scripts", options.file, &mut name);
-    if 0 <= input.descriptor {
-        play(input, &name, options);
+    let mut input = shell::open(voice, b"scripts", options.file, &mut name);
+    if shell::is_open(&input) {
+        play(voice, &mut input, &name, options);
     }
+}
+
+fn main(rt: HostRuntime) -> ExitCode {
+    let mut voice = shell::heard(rt);
+    start(&mut voice);
+    shell::exit_code(&voice)
 }

@@ -18,7 +18,7 @@ pub(crate) const HEX: u8 = 2;
 pub(crate) const PROTECTED: u8 = 3;
 
 // A number behind a name; the one of no bytes is none.
-#[derive(Drop)]
+#[derive(Clone, Copy)]
 pub(crate) struct Field {
     pub(crate) at: u8,
     pub(crate) bytes: u8,
@@ -97,23 +97,23 @@ pub(crate) fn field_of(verb: u8, code: u8, words: usize) -> Field {
 // The names of the commands, in the order of the codes.
 fn is_command(word: &[u8], row: usize) -> bool {
     match row {
-        0 => check::same(word, b"test-unit-ready"),
-        1 => check::same(word, b"rezero-unit"),
-        2 => check::same(word, b"request-sense"),
-        3 => check::same(word, b"format-unit"),
-        4 => check::same(word, b"inquiry"),
-        5 => check::same(word, b"start-stop-unit"),
-        6 => check::same(word, b"prevent-removal"),
-        7 => check::same(word, b"read-format-capacities"),
-        8 => check::same(word, b"read-capacity"),
-        9 => check::same(word, b"read"),
-        10 => check::same(word, b"write"),
-        11 => check::same(word, b"seek"),
-        12 => check::same(word, b"write-and-verify"),
-        13 => check::same(word, b"verify"),
-        14 => check::same(word, b"mode-sense"),
-        15 => check::same(word, b"read-12"),
-        _ => check::same(word, b"write-12"),
+        0 => word == b"test-unit-ready".as_slice(),
+        1 => word == b"rezero-unit".as_slice(),
+        2 => word == b"request-sense".as_slice(),
+        3 => word == b"format-unit".as_slice(),
+        4 => word == b"inquiry".as_slice(),
+        5 => word == b"start-stop-unit".as_slice(),
+        6 => word == b"prevent-removal".as_slice(),
+        7 => word == b"read-format-capacities".as_slice(),
+        8 => word == b"read-capacity".as_slice(),
+        9 => word == b"read".as_slice(),
+        10 => word == b"write".as_slice(),
+        11 => word == b"seek".as_slice(),
+        12 => word == b"write-and-verify".as_slice(),
+        13 => word == b"verify".as_slice(),
+        14 => word == b"mode-sense".as_slice(),
+        15 => word == b"read-12".as_slice(),
+        _ => word == b"write-12".as_slice(),
     }
 }
 
@@ -127,7 +127,7 @@ fn row_of(word: &[u8]) -> usize {
 }
 
 // A word's verb, and of a command its code.
-#[derive(Drop)]
+#[derive(Clone, Copy)]
 pub(crate) struct Meaning {
     pub(crate) verb: u8,
     pub(crate) code: u8,
@@ -149,17 +149,17 @@ fn command_meaning(word: &[u8]) -> Meaning {
 }
 
 fn verb_of(word: &[u8]) -> u8 {
-    if check::same(word, b"insert") {
+    if word == b"insert".as_slice() {
         verbs::INSERT
-    } else if check::same(word, b"eject") {
+    } else if word == b"eject".as_slice() {
         verbs::EJECT
-    } else if check::same(word, b"command") {
+    } else if word == b"command".as_slice() {
         verbs::COMMAND
-    } else if check::same(word, b"feed") {
+    } else if word == b"feed".as_slice() {
         verbs::FEED
-    } else if check::same(word, b"pull") {
+    } else if word == b"pull".as_slice() {
         verbs::PULL
-    } else if check::same(word, b"record") {
+    } else if word == b"record".as_slice() {
         verbs::RAW
     } else {
         verbs::NOTHING

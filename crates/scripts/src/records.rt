@@ -1,6 +1,7 @@
 // The records of a script, each played as soon as it is complete.
 use crate::{Buffer, Disc, Script};
 use player::Progress;
+use shell::Voice;
 
 // The script after a record.
 fn after(script: Script, step: Progress) -> Script {
@@ -19,21 +20,22 @@ fn after(script: Script, step: Progress) -> Script {
 }
 
 // Prints, unless only the verdict is asked for.
-fn show(script: Script, text: &[u8]) -> Script {
+fn show(voice: &mut Voice, script: Script, text: &[u8]) -> Script {
     let mut next = script;
     if !script.quiet {
-        next.on = script.on & shell::print(b"scripts", text);
+        next.on = script.on & shell::print(voice, b"scripts", text);
     }
     next
 }
 
-pub(crate) fn show_first(script: Script, text: &[u8], bytes: usize) -> Script {
+pub(crate) fn show_first(voice: &mut Voice, script: Script, text: &[u8], bytes: usize) -> Script {
     let n = ground::least(bytes, text.len());
-    show(script, &text[..n])
+    show(voice, script, &text[..n])
 }
 
 // Plays what there is of a record, if it can be told from that.
 fn play(
+    voice: &mut Voice,
     script: Script,
     ended: bool,
     record: &[u8],
@@ -52,11 +54,12 @@ fn play(
         turns::put_words(script.explain, step, part, line),
         line.len(),
     );
-    show(after(script, step), &line[..n])
+    show(voice, after(script, step), &line[..n])
 }
 
 // What there is of a record is all.
 pub(crate) fn cut(
+    voice: &mut Voice,
     script: Script,
     record: &[u8],
     line: &mut [u8],
@@ -65,13 +68,14 @@ pub(crate) fn cut(
 ) -> Script {
     let mut over = script;
     if script.on & script.playing & (0 < script.have) {
-        over = play(script, true, record, line, buffer, disc);
+        over = play(voice, script, true, record, line, buffer, disc);
     }
     over.have = 0;
     over
 }
 
 fn add_one(
+    voice: &mut Voice,
     script: Script,
     byte: u8,
     record: &mut [u8],
@@ -82,7 +86,7 @@ fn add_one(
     let mut next = script;
     next.have = text::put(record, script.have, byte);
     next.raw = true;
-    play(next, false, record, line, buffer, disc)
+    play(voice, next, false, record, line, buffer, disc)
 }
 
 // Another record is begun: what the one before printed is not its line.
@@ -94,6 +98,7 @@ pub(crate) fn begun(script: Script) -> Script {
 
 // The record that a line said by its name is there whole.
 pub(crate) fn named(
+    voice: &mut Voice,
     script: Script,
     length: usize,
     record: &[u8],
@@ -104,18 +109,19 @@ pub(crate) fn named(
     let mut next = begun(script);
     next.have = length;
     next.raw = false;
-    cut(next, record, line, buffer, disc)
+    cut(voice, next, record, line, buffer, disc)
 }
 
 // The next script starts from power-on, with a disc of zeros.
 pub(crate) fn start(
+    voice: &mut Voice,
     script: Script,
     record: &[u8],
     line: &mut [u8],
     buffer: &mut Buffer,
     disc: &mut Disc,
 ) -> Script {
-    let mut next = cut(script, record, line, buffer, disc);
+    let mut next = cut(voice, script, record, line, buffer, disc);
     *buffer = [0; disc::BUFFER_BYTES];
     *disc = [0; player::DISC_BYTES];
     next.playing = true;
@@ -132,6 +138,7 @@ fn passed_over(script: Script) -> Script {
 
 // A byte of a record, so many times.
 pub(crate) fn add(
+    voice: &mut Voice,
     script: Script,
     byte: u8,
     times: usize,
@@ -147,7 +154,7 @@ pub(crate) fn add(
         if !(next.on & next.playing) {
             return passed_over(next);
         }
-        next = add_one(next, byte, record, line, buffer, disc);
+        next = add_one(voice, next, byte, record, line, buffer, disc);
     }
     next
 }

@@ -85,7 +85,7 @@ fn take_hex(scan: Scan, word: &[u8], record: &mut [u8], field: Field) -> Scan {
 }
 
 fn take_protected(scan: Scan, word: &[u8], record: &mut [u8]) -> Scan {
-    if check::same(word, b"protected") {
+    if word == b"protected".as_slice() {
         text::put(record, HEADER_BYTES + 1, 1);
         return scan;
     }

@@ -1,5 +1,6 @@
 -- What is given lies within its room. Assumes nothing.
-use Rattle.ground.specs.Kit.{◌≡◌, ap, subst, List, ℕ, ◌≤◌, arith, length}
+use Rattle.std.specs.Prelude.{◌≡◌, ◌≤◌}
+use Rattle.ground.specs.Kit.{ap, subst, List, ℕ, arith, length}
 use Rattle.shell.specs.declared.{Argument.Argument}
 use Rattle.shell.specs.declared.Argument.TheVariants.{Given}
 use Rattle.text.specs.Ink.{Ink, ink, put_all}

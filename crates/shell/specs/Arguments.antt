@@ -1,5 +1,6 @@
 -- What a program is given by the shell that starts it.
-use Rattle.ground.specs.Kit.{Bool, true, false, cond, not, ◌&&◌, ◌||◌, List, [], ◌∷◌, ℕ, ◌≤◌, eqb, leb, length}
+use Rattle.std.specs.Prelude.{◌&&◌, ◌||◌, ◌∷◌, ◌≤◌}
+use Rattle.ground.specs.Kit.{Bool, true, false, cond, not, List, [], ℕ, eqb, leb, length}
 use Rattle.shell.specs.declared.{Argument.Argument, Options.Options}
 use Rattle.ground.specs.Bytes.{text, byte_at}
 use Rattle.shell.specs.declared.Argument.TheVariants.{Given, Missing, TooLong}

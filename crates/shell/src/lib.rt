@@ -1,8 +1,17 @@
 // What a program shares with the shell that starts it: its arguments, its input, what it says of trouble, and its exit status.
-ghost use Rattle.ground.specs.Kit.{◌≡◌, ◌≤◌, length};
+#![tactic(auto)]
+
+ghost use Rattle.std.specs.Prelude.{◌≡◌, ◌≤◌, OnOk, OnErr, pos, negsuc, ◌≤ℤ◌};
+ghost use Rattle.ground.specs.Kit.{true, length, cond};
+ghost use Rattle.std.specs.Process.{exit_status};
 ghost use Rattle.shell.specs.Arguments.{Within, option_b, with_file, with_option, with_word};
 
-use libc::{STDERR_FILENO, STDIN_FILENO, STDOUT_FILENO};
+use std::env::{Env, FillError};
+use std::fmt::Write as _;
+use std::fs::File;
+use std::io::{ErrorKind, Read, Stdin, Write};
+use std::process::ExitCode;
+use std::{fmt, io};
 
 // A name of any length that the system takes has room in so many bytes.
 pub const NAME_BYTES: usize = 4096;
@@ -14,13 +23,27 @@ pub const WANTING: u8 = 1;
 
 pub const TROUBLE: u8 = 2;
 
-// The language has no exit status, so the script in `bin/` that starts a program listens here.
-const STATUS_FILENO: i32 = 3;
+// That of a program which the signal PIPE ends, since nobody reads any more.
+const UNREAD: u8 = 141;
 
-// Room for a name, each byte of it shown by four, and what stands before it.
-const COMPLAINT_BYTES: usize = 16640;
+// Linux's numbers, where the reason is the system's and no call was made: ENAMETOOLONG and EILSEQ.
+const TOO_LONG: i32 = 36;
 
+const NO_TEXT: i32 = 84;
+
+// Room for a name, each byte of it shown by four, and what stands before and behind it.
+const COMPLAINT_BYTES: usize = 16896;
+
+// Through this a program is heard: what it says, and the status that it ends with.
 #[derive(Drop)]
+pub struct Voice {
+    pub rt: HostRuntime,
+    // nothing is heard any more
+    pub silent: bool,
+    pub status: u8,
+}
+
+#[derive(Clone, Copy)]
 pub enum Argument {
     // so many bytes at the start of the room
     Given(usize),
@@ -29,7 +52,7 @@ pub enum Argument {
 }
 
 // What the players are asked.
-#[derive(Drop)]
+#[derive(Clone, Copy)]
 pub struct Options {
     // an option that is not known, or a second file
     pub wrong: bool,
@@ -39,19 +62,66 @@ pub struct Options {
     pub file: usize,
 }
 
-// The last that a program does. Where nobody listens nothing happens.
-pub fn end(status: u8) {
-    match status {
-        AS_HOPED => io::write_all(STATUS_FILENO, b"0"),
-        WANTING => io::write_all(STATUS_FILENO, b"1"),
-        _ => io::write_all(STATUS_FILENO, b"2"),
-    };
+// A program that does not say how it ended is in trouble.
+pub fn heard(rt: HostRuntime) -> Voice
+    ensures { result.status ≡ 2 }
+{
+    Voice {
+        rt: rt,
+        silent: false,
+        status: TROUBLE,
+    }
+}
+
+// The last that a program does. Where nothing is heard any more nothing happens.
+pub fn end(voice: &mut Voice, status: u8)
+    ensures { voice.new.status ≡ cond voice.old.silent voice.old.status status }
+{
+    if !voice.silent {
+        voice.status = status;
+    }
+}
+
+// What `main` answers.
+pub fn exit_code(voice: &Voice) -> ExitCode
+    ensures { exit_status result ≡ voice.now.status }
+{
+    ExitCode::from(voice.status)
+}
+
+// Nothing is heard of the program any more, whatever it does: no text, no complaint, no status.
+pub fn fall_silent(voice: &mut Voice)
+    ensures silence { voice.new.silent ≡ true }
+    ensures same_status { voice.new.status ≡ voice.old.status }
+{
+    voice.silent = true;
+}
+
+// Nobody reads any more: the program ends as by the signal PIPE, without a word.
+fn leave(voice: &mut Voice) {
+    end(voice, UNREAD);
+    fall_silent(voice);
+}
+
+// A complaint that can't go out is lost.
+fn say_of_trouble(voice: &mut Voice, line: &[u8]) {
+    if voice.silent {
+        return;
+    }
+    match voice.rt.stderr().write_all(line) {
+        Ok(()) => {}
+        Err(error) => {
+            if error.kind() == ErrorKind::BrokenPipe {
+                leave(voice);
+            }
+        }
+    }
 }
 
 // A program that stops for trouble says why in one line.
-pub fn trouble(line: &[u8]) {
-    io::write_all(STDERR_FILENO, line);
-    end(TROUBLE);
+pub fn trouble(voice: &mut Voice, line: &[u8]) {
+    say_of_trouble(voice, line);
+    end(voice, TROUBLE);
 }
 
 // What a complaint begins with: the program, and what it is about.
@@ -64,64 +134,119 @@ fn put_subject(text: &mut [u8], program: &[u8], name: &[u8]) -> usize
     ground::least(end_of_name, text.len())
 }
 
+const REASON_BYTES: usize = 256;
+
+// A reason in words, as it is written.
+#[derive(Drop)]
+struct Words {
+    text: [u8; REASON_BYTES],
+    length: usize,
+}
+
+impl fmt::Write for Words {
+    fn write_str(&mut self, part: &str) -> fmt::Result {
+        self.length = text::put_all(&mut self.text, part.as_bytes(), self.length);
+        Ok(())
+    }
+}
+
+// std puts the error's number behind the system's reason, in parentheses.
+fn without_number(reason: &[u8]) -> usize
+    ensures { result ≤ length reason.now }
+{
+    match reason.iter().rposition(|b| *b == b'(') {
+        Some(at) => { if 0 < at { at - 1 } else { 0 } }
+        None => reason.len(),
+    }
+}
+
+// The reason as the system gives it goes behind a subject.
+fn put_reason(text: &mut [u8], at: usize, error: io::Error) -> usize
+    ensures { result ≤ length text.new }
+{
+    let mut words = Words {
+        text: [0; REASON_BYTES],
+        length: 0,
+    };
+    let _ = write!(words, "{error}");
+    let most = ground::least(words.length, REASON_BYTES);
+    let n = if error.raw_os_error().is_some() {
+        without_number(&words.text[..most])
+    } else {
+        most
+    };
+    let start = text::put_all(text, b": ", at);
+    let end_of_reason = text::put_all(text, &words.text[..n], start);
+    let whole = text::put(text, end_of_reason, b'\n');
+    ground::least(whole, text.len())
+}
+
 // What the system refused, in one line with the system's reason.
-pub fn complain(program: &[u8], name: &[u8]) {
+pub fn complain(voice: &mut Voice, program: &[u8], name: &[u8], error: io::Error) {
     let mut text = [0u8; COMPLAINT_BYTES];
-    let n = put_subject(&mut text, program, name);
-    os::fail(&text[..n]);
+    let subject = put_subject(&mut text, program, name);
+    let n = put_reason(&mut text, subject, error);
+    say_of_trouble(voice, &text[..n]);
 }
 
 // A program that stops for what the system refused.
-pub fn trouble_with(program: &[u8], name: &[u8]) {
-    complain(program, name);
-    end(TROUBLE);
+pub fn trouble_with(voice: &mut Voice, program: &[u8], name: &[u8], error: io::Error) {
+    complain(voice, program, name, error);
+    end(voice, TROUBLE);
 }
 
 // The same where the program has a reason of its own, with which the line ends.
-pub fn trouble_for(program: &[u8], name: &[u8], reason: &[u8]) {
+pub fn trouble_for(voice: &mut Voice, program: &[u8], name: &[u8], reason: &[u8]) {
     let mut text = [0u8; COMPLAINT_BYTES];
     let n = put_subject(&mut text, program, name);
-    io::write_all(STDERR_FILENO, &text[..n]);
-    trouble(reason);
+    say_of_trouble(voice, &text[..n]);
+    trouble(voice, reason);
 }
 
 // All of a text goes out, or the program has to stop.
-pub fn print(program: &[u8], text: &[u8]) -> bool {
-    let printed = io::write_all(STDOUT_FILENO, text);
-    if !printed {
-        trouble_with(program, b"standard output");
+pub fn print(voice: &mut Voice, program: &[u8], text: &[u8]) -> bool {
+    if voice.silent {
+        return false;
     }
-    printed
+    match voice.rt.stdout().write_all(text) {
+        Ok(()) => true,
+        Err(error) => {
+            if error.kind() == ErrorKind::BrokenPipe {
+                leave(voice);
+            } else {
+                trouble_with(voice, program, b"standard output", error);
+            }
+            false
+        }
+    }
 }
 
-// Nothing is heard of the program any more, whatever it does: no text, no complaint, no status.
-pub fn fall_silent() {
-    libc::close(STDOUT_FILENO);
-    libc::close(STDERR_FILENO);
-    libc::close(STATUS_FILENO);
+// Whether the program was given an argument of that number.
+pub fn is_given(rt: HostRuntime, i: usize) -> bool {
+    let mut room = [0u8; 1];
+    match given(rt, i, &mut room) {
+        Argument::Missing => false,
+        _ => true,
+    }
 }
 
 // Whether a program that takes no arguments was given none.
-pub fn is_alone(usage: &[u8]) -> bool {
-    let alone = os::arg_count() < 2;
+pub fn is_alone(voice: &mut Voice, usage: &[u8]) -> bool {
+    let alone = !is_given(voice.rt, 1);
     if !alone {
-        trouble(usage);
+        trouble(voice, usage);
     }
     alone
 }
 
 // Argument 0 is the program's own name.
-pub fn given(i: usize, room: &mut [u8]) -> Argument
+pub fn given(rt: HostRuntime, i: usize, room: &mut [u8]) -> Argument
     ensures { Within result (length room.new) }
 {
-    let n = os::arg(i, room);
-    let error = os::errno();
-    if error == 0 {
-        Argument::Given(n)
-    } else if error == libc::EINVAL {
-        Argument::Missing
-    } else {
-        Argument::TooLong
+    match rt.arg(i, room) {
+        Ok(n) => Argument::Given(n),
+        Err(FillError::NotPresent) => Argument::Missing,
+        Err(FillError::TooLong) => Argument::TooLong,
     }
 }
 
@@ -146,8 +271,8 @@ fn with_file(options: Options, i: usize) -> Options
 fn with_option(options: Options, word: &[u8]) -> Options
     ensures { result ≡ with_option options word.now }
 {
-    let explain = check::same(word, b"--explain");
-    let quiet = check::same(word, b"--quiet");
+    let explain = word == b"--explain".as_slice();
+    let quiet = word == b"--quiet".as_slice();
     Options {
         wrong: options.wrong | !(explain | quiet),
         explain: options.explain | explain,
@@ -167,8 +292,8 @@ fn with_word(options: Options, i: usize, word: &[u8]) -> Options
 }
 
 // Of an argument that is too long the room has the first bytes.
-fn with_argument(options: Options, i: usize, room: &mut [u8]) -> Options {
-    let told = given(i, room);
+fn with_argument(rt: HostRuntime, options: Options, i: usize, room: &mut [u8]) -> Options {
+    let told = given(rt, i, room);
     match told {
         Argument::Given(n) => with_word(options, i, &room[..n]),
         Argument::Missing => options,
@@ -177,7 +302,7 @@ fn with_argument(options: Options, i: usize, room: &mut [u8]) -> Options {
 }
 
 // What the arguments of a player say.
-pub fn asked() -> Options {
+pub fn asked(rt: HostRuntime) -> Options {
     let mut room = [0u8; NAME_BYTES];
     let mut options = Options {
         wrong: false,
@@ -185,62 +310,119 @@ pub fn asked() -> Options {
         quiet: false,
         file: 0,
     };
-    for i in 1..os::arg_count() {
-        options = with_argument(options, i, &mut room);
+    for i in 1..usize::MAX {
+        if !is_given(rt, i) {
+            break;
+        }
+        options = with_argument(rt, options, i, &mut room);
     }
     options
+}
+
+// Where bytes are read.
+#[derive(Drop)]
+pub enum Source {
+    // nowhere: it could not be opened, which has been said
+    Nowhere,
+    Standard(Stdin),
+    Named(File),
 }
 
 // What is read, and its name at the start of a room.
 #[derive(Drop)]
 pub struct Input {
-    // below 0 where there is none, which has been said
-    pub descriptor: i32,
+    pub source: Source,
     pub name: usize,
 }
 
-fn standard(room: &mut [u8]) -> Input
+impl Read for Input {
+    fn read(&mut self, room: &mut [u8]) -> io::Result<usize> {
+        match &mut self.source {
+            Source::Nowhere => Ok(0),
+            Source::Standard(stdin) => stdin.read(room),
+            Source::Named(file) => file.read(room),
+        }
+    }
+}
+
+pub fn is_open(input: &Input) -> bool {
+    match input.source {
+        Source::Nowhere => false,
+        _ => true,
+    }
+}
+
+// What a read told, as one number: how many bytes came, or below 0 where it failed.
+pub fn got(told: &io::Result<usize>) -> isize
+    ensures came { OnOk told.now (pos 0 ≤ℤ result) }
+    ensures failed { OnErr told.now (result ≡ negsuc 0) }
+{
+    match told {
+        Ok(n) => isize::try_from(*n).unwrap_or(isize::MAX),
+        Err(_) => -1,
+    }
+}
+
+fn standard(rt: HostRuntime, room: &mut [u8]) -> Input
     ensures { result.name ≤ length room.new }
 {
     Input {
-        descriptor: STDIN_FILENO,
+        source: Source::Standard(rt.stdin()),
         name: text::put_all(room, b"standard input", 0),
     }
 }
 
-fn open_named(program: &[u8], name: &[u8]) -> Input
+// The file of that name. std takes a name that is text in UTF-8, and no other.
+pub fn open_file(rt: HostRuntime, name: &[u8]) -> io::Result<File> {
+    match str::from_utf8(name) {
+        Ok(path) => File::open(&rt, path),
+        Err(_) => Err(io::Error::from_raw_os_error(NO_TEXT)),
+    }
+}
+
+// Why an argument that is too long can be no file's name.
+pub fn too_long() -> io::Error {
+    io::Error::from_raw_os_error(TOO_LONG)
+}
+
+fn open_named(voice: &mut Voice, program: &[u8], name: &[u8]) -> Input
     ensures { result.name ≡ length name.now }
 {
-    let descriptor = os::open_read(name);
-    if descriptor < 0 {
-        trouble_with(program, name);
-    }
-    Input {
-        descriptor: descriptor,
-        name: name.len(),
+    match open_file(voice.rt, name) {
+        Ok(file) => Input {
+            source: Source::Named(file),
+            name: name.len(),
+        },
+        Err(error) => {
+            trouble_with(voice, program, name, error);
+            Input {
+                source: Source::Nowhere,
+                name: name.len(),
+            }
+        }
     }
 }
 
 // The file that an argument names; standard input for `-` and for argument 0.
-pub fn open(program: &[u8], file: usize, room: &mut [u8]) -> Input
+pub fn open(voice: &mut Voice, program: &[u8], file: usize, room: &mut [u8]) -> Input
     ensures { result.name ≤ length room.new }
 {
     if file == 0 {
-        return standard(room);
+        return standard(voice.rt, room);
     }
-    let told = given(file, room);
+    let told = given(voice.rt, file, room);
     match told {
         Argument::Given(n) => {
-            if check::same(&room[..n], b"-") {
-                standard(room)
+            if &room[..n] == b"-".as_slice() {
+                standard(voice.rt, room)
             } else {
-                open_named(program, &room[..n])
+                open_named(voice, program, &room[..n])
             }
         }
         _ => {
-            trouble_with(program, b"the file's name");
+            trouble_with(voice, program, b"the file's name", too_long());
             Input {
-                descriptor: -1,
+                source: Source::Nowhere,
                 name: 0,
             }
         }
@@ -248,7 +430,7 @@ pub fn open(program: &[u8], file: usize, room: &mut [u8]) -> Input
 }
 
 // The system refused to go on with the input.
-pub fn unreadable(program: &[u8], input: Input, room: &[u8]) {
+pub fn unreadable(voice: &mut Voice, program: &[u8], input: &Input, room: &[u8], error: io::Error) {
     let n = ground::least(input.name, room.len());
-    trouble_with(program, &room[..n]);
+    trouble_with(voice, program, &room[..n], error);
 }

@@ -1,9 +1,12 @@
-// Feeds or pulls disc 3, or has the kit copy as many bytes, in so many calls of so many bytes: what bin/measure counts and times.
-ghost use Rattle.ground.specs.Kit.{◌+◌, ◌≤◌};
+// Feeds or pulls disc 3, or has std copy as many bytes, in so many calls of so many bytes: what bin/measure counts and times.
+#![tactic(auto)]
+
+ghost use Rattle.std.specs.Prelude.{◌+◌, ◌≤◌};
 
 use moves::MoveReply;
-use shell::Argument;
+use shell::{Argument, Voice};
 use state::{State, Transfer};
+use std::process::ExitCode;
 use text::Numeral;
 
 const TEST_UNIT_READY: u8 = 0x00;
@@ -32,7 +35,7 @@ const LINE_BYTES: usize = 27;
 // No number was given.
 const NONE: u64 = u64::MAX;
 
-#[derive(Drop)]
+#[derive(Clone, Copy)]
 enum Work {
     Feed,
     Pull,
@@ -41,7 +44,7 @@ enum Work {
 }
 
 // What a word of the arguments says, as work and as a number.
-#[derive(Drop)]
+#[derive(Clone, Copy)]
 struct Word {
     work: Work,
     number: u64,
@@ -93,12 +96,12 @@ fn call(
 // How many bytes so many calls have moved.
 fn calls(work: Work, count: u64, piece: &mut [u8], buffer: &mut [u8], disc: &mut [u8]) -> u64 {
     let mut state = ready(buffer, disc);
-    let mut total = 0;
+    let mut total: u64 = 0;
     let mut left = count;
     while 0 < left {
         let reply = call(work, state, piece, buffer, disc);
         state = reply.state;
-        total = std::num::wrapping_add_u64(total, reply.count as u64);
+        total = total.wrapping_add(reply.count as u64);
         left -= 1;
     }
     total
@@ -112,28 +115,28 @@ fn place_after(at: usize, piece: usize, disc: usize) -> usize
     if disc - piece < at { 0 } else { at }
 }
 
-// The same by the kit's copy, from the piece to the disc.
+// The same by std's copy, from the piece to the disc.
 fn copies(count: u64, piece: &[u8], disc: &mut [u8]) -> u64 {
     let most = ground::least(piece.len(), disc.len());
     let mut at = 0;
-    let mut total = 0;
+    let mut total: u64 = 0;
     let mut left = count;
     while 0 < left {
         let place = place_after(at, most, disc.len());
-        let n = bytes::copy(&piece[..most], &mut disc[place..]);
-        at = place + n;
-        total = std::num::wrapping_add_u64(total, n as u64);
+        at = place + most;
+        disc[place..at].copy_from_slice(&piece[..most]);
+        total = total.wrapping_add(most as u64);
         left -= 1;
     }
     total
 }
 
 fn work_of(word: &[u8]) -> Work {
-    if check::same(word, b"feed") {
+    if word == b"feed".as_slice() {
         Work::Feed
-    } else if check::same(word, b"pull") {
+    } else if word == b"pull".as_slice() {
         Work::Pull
-    } else if check::same(word, b"copy") {
+    } else if word == b"copy".as_slice() {
         Work::Copy
     } else {
         Work::Unknown
@@ -155,17 +158,17 @@ fn word_of(word: &[u8]) -> Word {
     }
 }
 
-fn asked(i: usize) -> Word {
+fn asked(rt: HostRuntime, i: usize) -> Word {
     let mut room = [0u8; WORD_BYTES];
-    let told = shell::given(i, &mut room);
+    let told = shell::given(rt, i, &mut room);
     match told {
         Argument::Given(n) => word_of(&room[..n]),
         _ => word_of(b""),
     }
 }
 
-fn usage() {
-    shell::trouble(b"speed: usage: speed feed|pull|copy PIECE CALLS\n");
+fn usage(voice: &mut Voice) {
+    shell::trouble(voice, b"speed: usage: speed feed|pull|copy PIECE CALLS\n");
 }
 
 fn put_line(line: &mut [u8], total: u64, first: u8, stored: u8) -> usize {
@@ -178,40 +181,56 @@ fn put_line(line: &mut [u8], total: u64, first: u8, stored: u8) -> usize {
 }
 
 // The bytes moved, and the first byte of the piece and of the disc, so that no move can be left out.
-fn say(total: u64, piece: &[u8], disc: &[u8]) {
+fn say(voice: &mut Voice, total: u64, piece: &[u8], disc: &[u8]) {
     let mut line = [0u8; LINE_BYTES];
     let first = ground::byte(piece, 0);
     let stored = ground::byte(disc, 0);
     let end = put_line(&mut line, total, first, stored);
     let n = ground::least(end, LINE_BYTES);
-    if shell::print(b"speed", &line[..n]) {
-        shell::end(shell::AS_HOPED);
+    if shell::print(voice, b"speed", &line[..n]) {
+        shell::end(voice, shell::AS_HOPED);
     }
 }
 
-fn run(work: Work, count: u64, piece: &mut [u8], buffer: &mut [u8], disc: &mut [u8]) {
+fn run(
+    voice: &mut Voice,
+    work: Work,
+    count: u64,
+    piece: &mut [u8],
+    buffer: &mut [u8],
+    disc: &mut [u8],
+) {
     match work {
         Work::Copy => {
             let total = copies(count, piece, disc);
-            say(total, piece, disc);
+            say(voice, total, piece, disc);
         }
-        Work::Unknown => usage(),
+        Work::Unknown => usage(voice),
         Work::Feed | Work::Pull => {
             let total = calls(work, count, piece, buffer, disc);
-            say(total, piece, disc);
+            say(voice, total, piece, disc);
         }
     }
 }
 
 // Pieces of so many bytes, or of all there are. They begin with the first argument, so that no compiler knows what is moved.
-fn lend(work: Work, count: u64, length: u64, piece: &mut [u8], buffer: &mut [u8], disc: &mut [u8]) {
-    shell::given(1, piece);
+fn lend(
+    voice: &mut Voice,
+    work: Work,
+    count: u64,
+    length: u64,
+    piece: &mut [u8],
+    buffer: &mut [u8],
+    disc: &mut [u8],
+) {
+    shell::given(voice.rt, 1, piece);
     let n = ground::least(length as usize, piece.len());
-    run(work, count, &mut piece[..n], buffer, disc);
+    run(voice, work, count, &mut piece[..n], buffer, disc);
 }
 
 // The same of arrays, whose lengths no proof has to follow.
 fn start(
+    voice: &mut Voice,
     work: Work,
     count: u64,
     length: u64,
@@ -219,19 +238,34 @@ fn start(
     buffer: &mut Buffer,
     disc: &mut Disc,
 ) {
-    lend(work, count, length, piece, buffer, disc);
+    lend(voice, work, count, length, piece, buffer, disc);
 }
 
-fn main() {
-    let work = asked(1).work;
-    let length = asked(2).number;
-    let count = asked(3).number;
-    if (os::arg_count() != 4) | ((PIECE_BYTES as u64) < length) | (count == NONE) {
-        usage();
+fn run_asked(voice: &mut Voice) {
+    let work = asked(voice.rt, 1).work;
+    let length = asked(voice.rt, 2).number;
+    let count = asked(voice.rt, 3).number;
+    let three = shell::is_given(voice.rt, 3) & !shell::is_given(voice.rt, 4);
+    if !three | ((PIECE_BYTES as u64) < length) | (count == NONE) {
+        usage(voice);
         return;
     }
     let mut piece = [0u8; PIECE_BYTES];
     let mut buffer = [0u8; disc::BUFFER_BYTES];
     let mut disc = [0u8; DISC_BYTES];
-    start(work, count, length, &mut piece, &mut buffer, &mut disc);
+    start(
+        voice,
+        work,
+        count,
+        length,
+        &mut piece,
+        &mut buffer,
+        &mut disc,
+    );
+}
+
+fn main(rt: HostRuntime) -> ExitCode {
+    let mut voice = shell::heard(rt);
+    run_asked(&mut voice);
+    shell::exit_code(&voice)
 }
