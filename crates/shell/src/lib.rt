@@ -2,9 +2,11 @@
 #![tactic(auto)]
 
 ghost use Rattle.std.specs.Prelude.{◌≡◌, ◌≤◌, OnOk, OnErr, pos, negsuc, ◌≤ℤ◌};
-ghost use Rattle.ground.specs.Kit.{true, length, cond};
+ghost use Rattle.ground.specs.Kit.{true, false, length, cond};
 ghost use Rattle.std.specs.Process.{exit_status};
 ghost use Rattle.shell.specs.Arguments.{Within, option_b, with_file, with_option, with_word};
+ghost use Rattle.shell.specs.Sources.{open_b};
+ghost use Rattle.shell.specs.Voices.{status_left};
 
 use std::env::{Env, FillError};
 use std::fmt::Write as _;
@@ -64,7 +66,8 @@ pub struct Options {
 
 // A program that does not say how it ended is in trouble.
 pub fn heard(rt: HostRuntime) -> Voice
-    ensures { result.status ≡ 2 }
+    ensures status { result.status ≡ 2 }
+    ensures silence { result.silent ≡ false }
 {
     Voice {
         rt: rt,
@@ -75,7 +78,8 @@ pub fn heard(rt: HostRuntime) -> Voice
 
 // The last that a program does. Where nothing is heard any more nothing happens.
 pub fn end(voice: &mut Voice, status: u8)
-    ensures { voice.new.status ≡ cond voice.old.silent voice.old.status status }
+    ensures status { voice.new.status ≡ cond voice.old.silent voice.old.status status }
+    ensures same_silence { voice.new.silent ≡ voice.old.silent }
 {
     if !voice.silent {
         voice.status = status;
@@ -98,13 +102,19 @@ pub fn fall_silent(voice: &mut Voice)
 }
 
 // Nobody reads any more: the program ends as by the signal PIPE, without a word.
-fn leave(voice: &mut Voice) {
+fn leave(voice: &mut Voice)
+    ensures silence { voice.new.silent ≡ true }
+    ensures status { voice.new.status ≡ cond voice.old.silent voice.old.status 141 }
+{
     end(voice, UNREAD);
     fall_silent(voice);
 }
 
 // A complaint that can't go out is lost.
-fn say_of_trouble(voice: &mut Voice, line: &[u8]) {
+fn say_of_trouble(voice: &mut Voice, line: &[u8])
+    ensures lasting { voice.old.silent ≡ true → voice.new.silent ≡ true }
+    ensures status { voice.new.status ≡ status_left voice.old.silent voice.old.status voice.new.silent voice.old.status }
+{
     if voice.silent {
         return;
     }
@@ -119,7 +129,10 @@ fn say_of_trouble(voice: &mut Voice, line: &[u8]) {
 }
 
 // A program that stops for trouble says why in one line.
-pub fn trouble(voice: &mut Voice, line: &[u8]) {
+pub fn trouble(voice: &mut Voice, line: &[u8])
+    ensures lasting { voice.old.silent ≡ true → voice.new.silent ≡ true }
+    ensures status { voice.new.status ≡ status_left voice.old.silent voice.old.status voice.new.silent 2 }
+{
     say_of_trouble(voice, line);
     end(voice, TROUBLE);
 }
@@ -182,7 +195,10 @@ fn put_reason(text: &mut [u8], at: usize, error: io::Error) -> usize
 }
 
 // What the system refused, in one line with the system's reason.
-pub fn complain(voice: &mut Voice, program: &[u8], name: &[u8], error: io::Error) {
+pub fn complain(voice: &mut Voice, program: &[u8], name: &[u8], error: io::Error)
+    ensures lasting { voice.old.silent ≡ true → voice.new.silent ≡ true }
+    ensures status { voice.new.status ≡ status_left voice.old.silent voice.old.status voice.new.silent voice.old.status }
+{
     let mut text = [0u8; COMPLAINT_BYTES];
     let subject = put_subject(&mut text, program, name);
     let n = put_reason(&mut text, subject, error);
@@ -190,13 +206,19 @@ pub fn complain(voice: &mut Voice, program: &[u8], name: &[u8], error: io::Error
 }
 
 // A program that stops for what the system refused.
-pub fn trouble_with(voice: &mut Voice, program: &[u8], name: &[u8], error: io::Error) {
+pub fn trouble_with(voice: &mut Voice, program: &[u8], name: &[u8], error: io::Error)
+    ensures lasting { voice.old.silent ≡ true → voice.new.silent ≡ true }
+    ensures status { voice.new.status ≡ status_left voice.old.silent voice.old.status voice.new.silent 2 }
+{
     complain(voice, program, name, error);
     end(voice, TROUBLE);
 }
 
 // The same where the program has a reason of its own, with which the line ends.
-pub fn trouble_for(voice: &mut Voice, program: &[u8], name: &[u8], reason: &[u8]) {
+pub fn trouble_for(voice: &mut Voice, program: &[u8], name: &[u8], reason: &[u8])
+    ensures lasting { voice.old.silent ≡ true → voice.new.silent ≡ true }
+    ensures status { voice.new.status ≡ status_left voice.old.silent voice.old.status voice.new.silent 2 }
+{
     let mut text = [0u8; COMPLAINT_BYTES];
     let n = put_subject(&mut text, program, name);
     say_of_trouble(voice, &text[..n]);
@@ -204,7 +226,11 @@ pub fn trouble_for(voice: &mut Voice, program: &[u8], name: &[u8], reason: &[u8]
 }
 
 // All of a text goes out, or the program has to stop.
-pub fn print(voice: &mut Voice, program: &[u8], text: &[u8]) -> bool {
+pub fn print(voice: &mut Voice, program: &[u8], text: &[u8]) -> bool
+    ensures lasting { voice.old.silent ≡ true → voice.new.silent ≡ true }
+    ensures status { voice.new.status ≡ status_left voice.old.silent voice.old.status voice.new.silent (cond result voice.old.status 2) }
+    ensures printed { result ≡ true → voice.new.silent ≡ false }
+{
     if voice.silent {
         return false;
     }
@@ -231,7 +257,11 @@ pub fn is_given(rt: HostRuntime, i: usize) -> bool {
 }
 
 // Whether a program that takes no arguments was given none.
-pub fn is_alone(voice: &mut Voice, usage: &[u8]) -> bool {
+pub fn is_alone(voice: &mut Voice, usage: &[u8]) -> bool
+    ensures lasting { voice.old.silent ≡ true → voice.new.silent ≡ true }
+    ensures status { voice.new.status ≡ status_left voice.old.silent voice.old.status voice.new.silent (cond result voice.old.status 2) }
+    ensures alone { result ≡ true → voice.new.silent ≡ voice.old.silent }
+{
     let alone = !is_given(voice.rt, 1);
     if !alone {
         trouble(voice, usage);
@@ -345,7 +375,9 @@ impl Read for Input {
     }
 }
 
-pub fn is_open(input: &Input) -> bool {
+pub fn is_open(input: &Input) -> bool
+    ensures { result ≡ open_b input.now.source }
+{
     match input.source {
         Source::Nowhere => false,
         _ => true,
@@ -430,7 +462,10 @@ pub fn open(voice: &mut Voice, program: &[u8], file: usize, room: &mut [u8]) -> 
 }
 
 // The system refused to go on with the input.
-pub fn unreadable(voice: &mut Voice, program: &[u8], input: &Input, room: &[u8], error: io::Error) {
+pub fn unreadable(voice: &mut Voice, program: &[u8], input: &Input, room: &[u8], error: io::Error)
+    ensures lasting { voice.old.silent ≡ true → voice.new.silent ≡ true }
+    ensures status { voice.new.status ≡ status_left voice.old.silent voice.old.status voice.new.silent 2 }
+{
     let n = ground::least(input.name, room.len());
     trouble_with(voice, program, &room[..n], error);
 }
