@@ -396,7 +396,8 @@ pub fn got(told: &io::Result<usize>) -> isize
 }
 
 fn standard(rt: HostRuntime, room: &mut [u8]) -> Input
-    ensures { result.name ≤ length room.new }
+    ensures name { result.name ≤ length room.new }
+    ensures source { open_b result.source ≡ true }
 {
     Input {
         source: Source::Standard(rt.stdin()),
@@ -418,7 +419,9 @@ pub fn too_long() -> io::Error {
 }
 
 fn open_named(voice: &mut Voice, program: &[u8], name: &[u8]) -> Input
-    ensures { result.name ≡ length name.now }
+    ensures name { result.name ≡ length name.now }
+    ensures lasting { voice.old.silent ≡ true → voice.new.silent ≡ true }
+    ensures status { voice.new.status ≡ status_left voice.old.silent voice.old.status voice.new.silent (cond (open_b result.source) voice.old.status 2) }
 {
     match open_file(voice.rt, name) {
         Ok(file) => Input {
@@ -437,7 +440,9 @@ fn open_named(voice: &mut Voice, program: &[u8], name: &[u8]) -> Input
 
 // The file that an argument names; standard input for `-` and for argument 0.
 pub fn open(voice: &mut Voice, program: &[u8], file: usize, room: &mut [u8]) -> Input
-    ensures { result.name ≤ length room.new }
+    ensures name { result.name ≤ length room.new }
+    ensures lasting { voice.old.silent ≡ true → voice.new.silent ≡ true }
+    ensures status { voice.new.status ≡ status_left voice.old.silent voice.old.status voice.new.silent (cond (open_b result.source) voice.old.status 2) }
 {
     if file == 0 {
         return standard(voice.rt, room);
