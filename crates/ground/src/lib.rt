@@ -10,34 +10,34 @@ ghost use Rattle.ground.specs.Filling.{filled, fill_of};
 pub fn byte(bytes: &[u8], i: usize) -> u8
     ensures { result ≡ byte_at bytes.now i }
 {
-    if i < bytes.len() { bytes[i] } else { 0 }
+    bytes.get(i).copied().unwrap_or(0)
 }
 
 // Big-endian numbers of two and of four bytes.
 pub fn word_of(a: u8, b: u8) -> u32
     ensures { result ≡ word a b }
 {
-    (a as u32) * 256 + (b as u32)
+    u16::from_be_bytes([a, b]) as u32
 }
 
 pub fn long_of(a: u8, b: u8, c: u8, d: u8) -> u32
     ensures { result ≡ long a b c d }
 {
-    (((a as u32) * 256 + (b as u32)) * 256 + (c as u32)) * 256 + (d as u32)
+    u32::from_be_bytes([a, b, c, d])
 }
 
 // A little-endian number of two bytes.
 pub fn little_of(low: u8, high: u8) -> usize
     ensures { result ≡ little low high }
 {
-    (low as usize) + (high as usize) * 256
+    u16::from_le_bytes([low, high]) as usize
 }
 
 // The smaller of two counts.
 pub fn least(a: usize, b: usize) -> usize
     ensures { result ≡ min a b }
 {
-    if a < b { a } else { b }
+    a.min(b)
 }
 
 // Fills the start of the buffer with the first bytes of the source, as many as both have.
@@ -45,7 +45,7 @@ pub fn fill(source: &[u8], buffer: &mut [u8]) -> usize
     ensures { filled result buffer.new
         ≡ fill_of (min (length source.now) (length buffer.old)) source.now buffer.old }
 {
-    let n = least(source.len(), buffer.len());
+    let n = source.len().min(buffer.len());
     buffer[..n].copy_from_slice(&source[..n]);
     n
 }

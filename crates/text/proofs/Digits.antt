@@ -1,10 +1,7 @@
 -- A digit more in front, and none. Assumes nothing.
-use Rattle.std.specs.Prelude.{◌≡◌, ◌&&◌, ◌+◌, ◌-◌, ◌/◌, ◌<◌, ◌≤◌}
-use Rattle.ground.specs.Kit.{sym, ◌∙◌, true, false, and-true, and-eq-true_iff, false≢true, List, ℕ, zero, suc, arith, add-one, sub-one, lt-ltb, ltb-true, ltb, length, drop, get_or, set, drop-cons, drop-set-lt}
+use Rattle.std.specs.Prelude.{◌≡◌, ◌&&◌, ◌+◌, ◌-◌, ◌/◌, ◌<◌}
+use Rattle.ground.specs.Kit.{sym, ◌∙◌, true, false, and-true, and-eq-true_iff, false≢true, List, ℕ, zero, suc, arith, add-one, sub-one, lt-ltb, ltb, length, drop, get_or, set, drop-cons, drop-set-lt}
 use Rattle.text.specs.Numbers.{last_digit, digits_before}
-
-pub some_place : (i n : ℕ) → (ltb 9 n && ltb 0 i) ≡ true → 1 ≤ i
-some_place i n t = ltb-true 0 i ((and-eq-true_iff (ltb 9 n) (ltb 0 i)).0 t).1
 
 module _ (digits : List ℕ) (n : ℕ) where
   -- the place before is free: the next digit goes there

@@ -1,33 +1,37 @@
 -- Putting goes on byte by byte. Assumes nothing.
 use Rattle.std.specs.Prelude.{◌≡◌, ◌∷◌, ◌++◌, ◌+◌, ◌<◌, ◌≤◌}
-use Rattle.ground.specs.Kit.{refl, sym, ap, ◌∙◌, Bool, true, false, cond, List, [], ℕ, suc, arith, add-zero, zero-add, add-one, lt-ltb, ltb-true, ltb, length, drop, get_or, set, length-set, drop_of_length-le, drop-cons, sets, sets-eq}
-use Rattle.text.specs.Ink.{Ink, ink, put_byte, put_all, FitsWhole, StaysInLine, OneText}
+use Rattle.ground.specs.Kit.{refl, sym, ap, ◌∙◌, Bool, true, false, cond, List, [], ℕ, suc, arith, add-zero, zero-add, add-one, lt-ltb, ltb-true, ltb, length, drop, get_or, set, length-set, drop-cons, sets, sets-eq}
+use Rattle.text.specs.Ink.{Ink, Inked, ink, put_byte, put_all, put_on, FitsWhole, StaysInLine, OneText, OneLine}
 
 pub put_append : (i : Ink) (xs ys : List ℕ) → put_all i (xs ++ ys) ≡ put_all (put_all i xs) ys
 unfolding put_all
 put_append i [] ys = refl
 put_append i (x ∷ xs) ys = put_append (put_byte i x) xs ys
 
--- of what is said byte after byte, the first j bytes are put: the line keeps its length, and what is left brings the whole
-abbrev pub PutSoFar : (List ℕ → List ℕ) → List ℕ → Ink → ℕ → Ink → Type 0
-PutSoFar say bytes start j i = (length i.line ≡ length start.line) × (put_all i (say (drop j bytes)) ≡ put_all start (say bytes))
+-- two puts as one, so that `grind` goes from put to put
+pub put_behind : (i : Ink) (xs ys : List ℕ) → put_all (put_all i xs) ys ≡ put_all i (xs ++ ys)
+put_behind i xs ys = sym (put_append i xs ys)
 
-module _ (say : List ℕ → List ℕ) (bytes : List ℕ) (start : Ink) (j : ℕ) (i : Ink) (so_far : PutSoFar say bytes start j i) where
-  pub one_more : (one : ℕ → List ℕ) → ((b : ℕ) (bs : List ℕ) → say (b ∷ bs) ≡ one b ++ say bs) → j < length bytes → (k : Ink)
-      → length k.line ≡ length i.line → k ≡ put_all i (one (get_or bytes j 0)) → PutSoFar say bytes start (j + 1) k
-  one_more one each h k same puts =
-      let b = get_or bytes j 0 in
-      let rest = say (drop (suc j) bytes) in
-      let all = rw (drop-cons bytes j 0 h, each b (drop (suc j) bytes)) at so_far.1 in
-      (same ∙ so_far.0, rw (puts, add-one j) (sym (put_append i (one b) rest) ∙ all))
+-- and in the line at hand
+pub put_on_append : (i : Inked) (xs ys : List ℕ) → put_on i (xs ++ ys) ≡ put_on (put_on i xs) ys
+put_on_append i xs ys = ap (λ (k : Ink). record { buffer = i.buffer; ink = k }) (put_append i.ink xs ys)
 
-  pub no_more : say [] ≡ [] → length bytes ≤ j → i ≡ put_all start (say bytes)
-  unfolding put_all
-  no_more none h = rw (drop_of_length-le bytes h, none) at so_far.1
+-- of what is said byte after byte, the first j bytes are put: what is left brings the whole
+abbrev pub PutSoFar : (List ℕ → List ℕ) → List ℕ → Inked → ℕ → Inked → Type 0
+PutSoFar say bytes start j i = put_on i (say (drop j bytes)) ≡ put_on start (say bytes)
 
--- a text after another
-pub put_then : (i : Ink) (xs ys : List ℕ) (j k : Ink) → j ≡ put_all i xs → k ≡ put_all j ys → k ≡ put_all i (xs ++ ys)
-put_then i xs ys j k e f = f ∙ ap (λ (m : Ink). put_all m ys) e ∙ sym (put_append i xs ys)
+pub one_more : (say : List ℕ → List ℕ) (one : ℕ → List ℕ) → ((b : ℕ) (bs : List ℕ) → say (b ∷ bs) ≡ one b ++ say bs)
+    → (bytes : List ℕ) (start : Inked) (j : ℕ) (i k : Inked) → PutSoFar say bytes start j i → j < length bytes → k ≡ put_on i (one (get_or bytes j 0))
+    → PutSoFar say bytes start (j + 1) k
+one_more say one each bytes start j i k so_far h puts =
+    let b = get_or bytes j 0 in
+    let rest = say (drop (suc j) bytes) in
+    let all = rw (drop-cons bytes j 0 h, each b (drop (suc j) bytes)) at so_far in
+    rw (puts, add-one j) (sym (put_on_append i (one b) rest) ∙ all)
+
+-- and in the line at hand
+pub put_on_then : (i : Inked) (xs ys : List ℕ) (j k : Inked) → j ≡ put_on i xs → k ≡ put_on j ys → k ≡ put_on i (xs ++ ys)
+put_on_then i xs ys j k e f = f ∙ ap (λ (m : Inked). put_on m ys) e ∙ sym (put_on_append i xs ys)
 
 -- where there is room, each byte is stored
 puts : (text : List ℕ) (at : ℕ) (line : List ℕ) → at + length text ≤ length line
@@ -65,3 +69,8 @@ stays_in_line i (b ∷ bs) h =
 
 pub one_text : OneText
 one_text i text r q l m e f = let same = e ∙ sym f in (ap (λ (j : Ink). j.at) same, ap (λ (j : Ink). j.line) same)
+
+pub one_line : OneLine
+one_line i text l m e f =
+    let same = e ∙ sym f in
+    (ap (λ (k : Inked). k.ink.at) same, ap (λ (k : Inked). k.ink.line) same, ap (λ (k : Inked). k.buffer) same)

@@ -1,148 +1,161 @@
-// Text composed in a lent line: each function goes on at a place and answers the place after what it put.
+// Text composed in a lent line, byte after byte.
 #![tactic(auto)]
 
 ghost use Rattle.std.specs.Prelude.{◌≡◌, ◌<◌, ◌∷◌};
-ghost use Rattle.ground.specs.Kit.{[]};
+ghost use Rattle.ground.specs.Kit.{[], take};
 ghost use Rattle.text.specs.Numbers.{glyph_of, hex_of, hexes_of, decimal_of};
 ghost use Rattle.text.specs.Plain.{plain_byte, plain_of};
 ghost use Rattle.text.specs.Reading.{with_digit, number_of};
-ghost use Rattle.text.specs.Ink.{ink, put_all};
+ghost use Rattle.text.specs.Ink.{begun, inked, put_on};
 
-// A line that is full is left as it is.
-pub fn put(line: &mut [u8], at: usize, b: u8) -> usize
-    ensures { ink result line.new ≡ put_all (ink at line.old) (b ∷ []) }
-{
-    if at < line.len() {
-        line[at] = b;
-        at + 1
-    } else {
-        at
+use std::fmt;
+
+// A lent line, with the place of the next byte.
+#[derive(Drop)]
+pub struct Line<'a> {
+    pub bytes: &'a mut [u8],
+    pub at: usize,
+}
+
+impl<'a> Line<'a> {
+    pub fn new(bytes: &'a mut [u8]) -> Line<'a>
+        ensures { inked result ≡ begun bytes.entry.ghost_name 0 bytes.old }
+    {
+        Line { bytes, at: 0 }
+    }
+
+    // The bytes before the place.
+    pub fn said(&self) -> &[u8]
+        ensures { result.now ≡ take self.now.at self.now.bytes.now }
+    {
+        &self.bytes[..self.at.min(self.bytes.len())]
+    }
+
+    // A line that is full is left as it is.
+    #[tactic(auto, unfolding(crate::specs::Ink::put_all), using(std::proofs::lemmas::Bool::Decides::nat_tests))]
+    pub fn put(&mut self, b: u8)
+        ensures { inked self.new ≡ put_on (inked self.old) (b ∷ []) }
+    {
+        if self.at < self.bytes.len() {
+            self.bytes[self.at] = b;
+            self.at += 1;
+        }
+    }
+
+    // Three loops that put byte by byte: one over a closure would need a clause of what it puts, longer than a loop.
+    #[tactic(auto, unfolding(crate::specs::Ink::put_all))]
+    pub fn put_all(&mut self, text: &[u8])
+        ensures { inked self.new ≡ put_on (inked self.old) text.now }
+    {
+        for b in text {
+            self.put(*b);
+        }
+    }
+
+    // Two hexadecimal digits.
+    #[tactic(auto, unfolding(crate::specs::Numbers::hex_of, crate::specs::Ink::put_all))]
+    pub fn put_hex(&mut self, b: u8)
+        ensures { inked self.new ≡ put_on (inked self.old) (hex_of b) }
+    {
+        self.put(glyph(b / 16));
+        self.put(glyph(b % 16));
+    }
+
+    // Two hexadecimal digits for each byte, with nothing between.
+    #[tactic(auto, unfolding(crate::specs::Ink::put_all))]
+    pub fn put_hexes(&mut self, bytes: &[u8])
+        ensures { inked self.new ≡ put_on (inked self.old) (hexes_of bytes.now) }
+    {
+        for b in bytes {
+            self.put_hex(*b);
+        }
+    }
+
+    #[tactic(auto, unfolding(crate::specs::Plain::plain_byte, crate::specs::Ink::put_all))]
+    fn put_plain_byte(&mut self, b: u8)
+        ensures { inked self.new ≡ put_on (inked self.old) (plain_byte b) }
+    {
+        if (b' ' <= b) & (b <= b'~') & (b != b'\\') {
+            self.put(b);
+        } else {
+            self.put_all(b"\\x");
+            self.put_hex(b);
+        }
+    }
+
+    // A text of which a reader sees every byte.
+    #[tactic(auto, unfolding(crate::specs::Ink::put_all))]
+    pub fn put_plain(&mut self, text: &[u8])
+        ensures { inked self.new ≡ put_on (inked self.old) (plain_of text.now) }
+    {
+        for b in text {
+            self.put_plain_byte(*b);
+        }
+    }
+
+    // A number in decimal, by hand, as the promise says which digits: the last first, at the end of 20 places, which hold any number of 64 bits.
+    pub fn put_decimal(&mut self, n: u64)
+        ensures { inked self.new ≡ put_on (inked self.old) (decimal_of n) }
+    {
+        let mut digits = [0u8; 20];
+        let mut i = 19;
+        let mut rest = n;
+        digits[19] = b'0' + (n % 10) as u8;
+        // no `for`: it ends with the number's first digit
+        while (9 < rest) & (0 < i) {
+            rest /= 10;
+            i -= 1;
+            digits[i] = b'0' + (rest % 10) as u8;
+        }
+        self.put_all(&digits[i..]);
     }
 }
 
-pub fn put_all(line: &mut [u8], text: &[u8], at: usize) -> usize
-    ensures { ink result line.new ≡ put_all (ink at line.old) text.now }
-{
-    let mut next = at;
-    let mut i = 0;
-    while i < text.len() {
-        next = put(line, next, text[i]);
-        i += 1;
+impl fmt::Write for Line<'_> {
+    ghost write_str_gives = { λ s bs t. inked t ≡ put_on (inked s) bs };
+
+    fn write_str(&mut self, part: &str) -> fmt::Result {
+        self.put_all(part.as_bytes());
+        Ok(())
     }
-    next
 }
 
 // A digit below 16, in ASCII.
+#[tactic(auto, unfolding(crate::specs::Numbers::glyph_of), using(std::proofs::lemmas::Bool::Decides::nat_tests))]
 fn glyph(digit: u8) -> u8
     requires { digit < 16 }
     ensures { result ≡ glyph_of digit }
 {
-    if digit < 10 { 48 + digit } else { 87 + digit }
-}
-
-// Two hexadecimal digits.
-pub fn put_hex(line: &mut [u8], at: usize, b: u8) -> usize
-    ensures { ink result line.new ≡ put_all (ink at line.old) (hex_of b) }
-{
-    let next = put(line, at, glyph(b / 16));
-    put(line, next, glyph(b % 16))
-}
-
-// Two hexadecimal digits for each byte, with nothing between.
-pub fn put_hexes(line: &mut [u8], bytes: &[u8], at: usize) -> usize
-    ensures { ink result line.new ≡ put_all (ink at line.old) (hexes_of bytes.now) }
-{
-    let mut next = at;
-    let mut i = 0;
-    while i < bytes.len() {
-        next = put_hex(line, next, bytes[i]);
-        i += 1;
+    if digit < 10 {
+        b'0' + digit
+    } else {
+        b'a' + (digit - 10)
     }
-    next
-}
-
-fn put_plain_byte(line: &mut [u8], at: usize, b: u8) -> usize
-    ensures { ink result line.new ≡ put_all (ink at line.old) (plain_byte b) }
-{
-    if (32 <= b) & (b <= 126) & (b != 92) {
-        return put(line, at, b);
-    }
-    let next = put_all(line, b"\\x", at);
-    put_hex(line, next, b)
-}
-
-// A text of which a reader sees every byte.
-pub fn put_plain(line: &mut [u8], text: &[u8], at: usize) -> usize
-    ensures { ink result line.new ≡ put_all (ink at line.old) (plain_of text.now) }
-{
-    let mut next = at;
-    let mut i = 0;
-    while i < text.len() {
-        next = put_plain_byte(line, next, text[i]);
-        i += 1;
-    }
-    next
-}
-
-// A number in decimal: its digits, the last first, are put at the end of 20 places, which hold any number of 64 bits.
-pub fn put_decimal(line: &mut [u8], at: usize, n: u64) -> usize
-    ensures { ink result line.new ≡ put_all (ink at line.old) (decimal_of n) }
-{
-    let mut digits = [0u8; 20];
-    let mut i = 19;
-    let mut rest = n;
-    digits[19] = 48 + (n % 10) as u8;
-    while (9 < rest) & (0 < i) {
-        rest = rest / 10;
-        i -= 1;
-        digits[i] = 48 + (rest % 10) as u8;
-    }
-    put_all(line, &digits[i..], at)
-}
-
-// What a text says, read as a number.
-#[derive(Clone, Copy)]
-pub enum Numeral {
-    Of(u64),
-    NoNumber,
 }
 
 // A number with a digit more behind it.
-fn with_digit(n: u64, b: u8) -> Numeral
+#[tactic(auto, unfolding(crate::specs::Reading::with_digit), using(std::proofs::lemmas::Bool::Decides::nat_tests))]
+fn with_digit(n: u64, b: u8) -> Option<u64>
     ensures { result ≡ with_digit n b }
 {
-    if b < 48 {
-        return Numeral::NoNumber;
+    let digit = b.checked_sub(b'0')?;
+    if 9 < digit {
+        return None;
     }
-    if 57 < b {
-        return Numeral::NoNumber;
-    }
-    let digit = (b - 48) as u64;
-    if u64::MAX / 10 < n {
-        return Numeral::NoNumber;
-    }
-    if u64::MAX - n * 10 < digit {
-        return Numeral::NoNumber;
-    }
-    Numeral::Of(n * 10 + digit)
+    n.checked_mul(10)?.checked_add(u64::from(digit))
 }
 
 // The number that a text of digits says.
-pub fn number(text: &[u8]) -> Numeral
+#[tactic(auto, unfolding(crate::specs::Reading::after, crate::specs::Reading::number_of), using(crate::proofs::Numerals::says_none, std::proofs::lemmas::Bool::Decides::nat_tests))]
+pub fn number(text: &[u8]) -> Option<u64>
     ensures { result ≡ number_of text.now }
 {
-    if text.len() == 0 {
-        return Numeral::NoNumber;
+    if text.is_empty() {
+        return None;
     }
     let mut n = 0;
-    let mut i = 0;
-    while i < text.len() {
-        let told = with_digit(n, text[i]);
-        match told {
-            Numeral::Of(next) => n = next,
-            Numeral::NoNumber => return told,
-        }
-        i += 1;
+    for b in text {
+        n = with_digit(n, *b)?;
     }
-    Numeral::Of(n)
+    Some(n)
 }

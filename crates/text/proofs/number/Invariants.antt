@@ -1,10 +1,7 @@
-use Rattle.std.specs.Prelude.{◌-◌}
-use Rattle.ground.specs.Kit.{length}
-use Rattle.text.proofs.Numerals.{SaidSoFar}
+use Rattle.std.specs.Prelude.{◌≡◌, Some}
+use Rattle.ground.specs.Kit.{drop}
+use Rattle.text.specs.Reading.{after, number_of}
 use Rattle.text.proofs.number.Given as goal
 
-abbrev pub invariant-loop-i : goal.invariant-loop-i
-invariant-loop-i l = SaidSoFar l.text l.i l.n
-
-abbrev pub decreases-loop-i : goal.decreases-loop-i
-decreases-loop-i l = length l.text - l.i
+abbrev pub invariant-loop-b : goal.invariant-loop-b
+invariant-loop-b l = after (drop l.b-index l.text) (Some l.n) ≡ number_of l.text

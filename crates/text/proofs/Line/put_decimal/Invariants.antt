@@ -1,7 +1,7 @@
 use Rattle.std.specs.Prelude.{◌≡◌, ◌+◌, ◌<◌}
 use Rattle.ground.specs.Kit.{length, drop, get_or}
 use Rattle.text.specs.Numbers.{last_digit, digits_before, decimal_of}
-use Rattle.text.proofs.put_decimal.Given as goal
+use Rattle.text.proofs.Line.put_decimal.Given as goal
 
 abbrev pub invariant-loop-rest : goal.invariant-loop-rest
 invariant-loop-rest l =

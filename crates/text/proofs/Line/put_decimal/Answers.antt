@@ -2,7 +2,7 @@ use Rattle.std.specs.Prelude.{◌-◌, ◌/◌}
 use Rattle.ground.specs.Kit.{◌∙◌, arith, drop, length-set, length-drop, get_or-set_same, take_all}
 use Rattle.text.specs.Numbers.{last_digit}
 use Rattle.text.proofs.Digits.{one_more, no_more}
-use Rattle.text.proofs.put_decimal.Goals as goal
+use Rattle.text.proofs.Line.put_decimal.Goals as goal
 
 pub loop-rest-preserved : goal.loop-rest-preserved
 loop-rest-preserved c =
@@ -16,8 +16,7 @@ loop-rest-preserved c =
 
 pub returns : goal.returns
 returns c =
-    let after = c in
-    let l = after.loop-rest in
+    let l = c.loop-rest in
     let left = drop l.i l.digits in
     c.put_all.ensures
-    ∙ rw (take_all (20 - l.i) left (rw (length-drop l.i l.digits) (omega (arith, l.invariant.1))), no_more l.digits l.rest l.i after.loop-rest-test.false (omega arith) l.invariant.2, l.invariant.3)
+    ∙ rw (take_all (20 - l.i) left (rw (length-drop l.i l.digits) (omega (arith, l.invariant.1))), no_more l.digits l.rest l.i c.loop-rest-test.false (omega arith) l.invariant.2, l.invariant.3)
