@@ -1,6 +1,7 @@
 -- What a record holds, row by row. Assumes nothing.
-use Rattle.std.specs.Prelude.{◌≡◌, ◌&&◌, ◌≤◌}
+use Rattle.std.specs.Prelude.{◌≡◌, ◌&&◌, ◌≤◌, Option, None}
 use Rattle.ground.specs.Kit.{refl, Bool, true, false, cond, List, ℕ, arith, leb-true, leb, length}
+use Rattle.std.proofs.lemmas.Bool.Decides.{nat_tests}
 use Rattle.record.specs.declared.{Record.Record}
 use Rattle.ground.specs.Bytes.{byte_at, little}
 use Rattle.ground.proofs.Truth.{both}
@@ -8,7 +9,6 @@ use Rattle.ground.proofs.Tables.{found}
 use Rattle.ground.proofs.Each.{found_each}
 use Rattle.record.specs.Records.{Row, length_field, kind_field, whole_b, script_rows, other_row, row_of, record_of}
 use Rattle.record.specs.Holding.{There, Holds, AllHold}
-use Rattle.record.specs.declared.Record.TheVariants.{Bad}
 
 -- the tests that a whole record has passed
 pub record Whole (r : Row) (bytes : List ℕ) : Type 0 where
@@ -17,11 +17,7 @@ pub record Whole (r : Row) (bytes : List ℕ) : Type 0 where
   pub there : length_field bytes ≤ length bytes
 
 pub whole : (r : Row) (bytes : List ℕ) → whole_b r.least r.most bytes ≡ true → Whole r bytes
-whole r bytes w =
-    let n = length_field bytes in
-    let (ends, there) = both (leb r.least n && leb n r.most) (leb n (length bytes)) w in
-    let (low, high) = both (leb r.least n) (leb n r.most) ends in
-    record { low = leb-true r.least n low; high = leb-true n r.most high; there = leb-true n (length bytes) there }
+whole r bytes w = record { low = grind (arith, nat_tests); high = grind (arith, nat_tests); there = grind (arith, nat_tests) }
 
 -- every row's least length counts the header, and no record has more than 516 bytes
 pub record Bounded (r : Row) : Type 0 where
@@ -35,7 +31,7 @@ bounded bytes =
     record { header = leb-true 4 _ header; few = leb-true _ 516 few }
 
 -- a test that fails leaves a record bad
-if_good : (bytes : List ℕ) (t : Bool) (r : Record) → (t ≡ true → Holds r bytes) → Holds (cond t r Bad) bytes
+if_good : (bytes : List ℕ) (t : Bool) (r : Option Record) → (t ≡ true → Holds r bytes) → Holds (cond t r None) bytes
 if_good bytes true r h = h refl
 if_good bytes false r h = tt
 

@@ -1,9 +1,7 @@
 // The bytes of a script, taken apart record by record.
 #![tactic(auto)]
 
-ghost use Rattle.std.specs.Prelude.{◌≡◌, ◌-◌};
-ghost use Rattle.ground.specs.Kit.{cond};
-ghost use Rattle.record.specs.declared.Record.TheVariants.{Bad};
+ghost use Rattle.std.specs.Prelude.{◌≡◌};
 ghost use Rattle.record.specs.Records.{length_field, kind_field, whole_b, if_whole, insert_record, pull_record, record_of};
 ghost use Rattle.record.specs.Waiting.{enough_b};
 
@@ -21,7 +19,6 @@ pub enum Record {
     Feed(usize),
     // so many bytes are asked for
     Pull(usize),
-    Bad,
 }
 
 // Length and kind.
@@ -42,6 +39,7 @@ pub const PIECE_BYTES: usize = 512;
 // The longest record of a script.
 pub const RECORD_BYTES: usize = 516;
 
+// The kinds, as the wire numbers them: matched in one place, so that an enum would be no plainer.
 const INSERT: usize = 1;
 
 const EJECT: usize = 2;
@@ -69,7 +67,7 @@ fn whole(bytes: &[u8], least: usize, most: usize) -> bool
     ensures { result ≡ whole_b least most bytes.now }
 {
     let length = length_field(bytes);
-    (least <= length) & (length <= most) & (length <= bytes.len())
+    (least..=most).contains(&length) && length <= bytes.len()
 }
 
 // Whether more bytes behind these can't change what the record at the front is.
@@ -77,72 +75,57 @@ pub fn enough(bytes: &[u8]) -> bool
     ensures { result ≡ enough_b bytes.now }
 {
     let length = length_field(bytes);
-    (HEADER_BYTES <= bytes.len()) & ((length <= bytes.len()) | (RECORD_BYTES < length))
+    HEADER_BYTES <= bytes.len() && (length <= bytes.len() || RECORD_BYTES < length)
 }
 
-fn if_good(good: bool, told: Record) -> Record
-    ensures { result ≡ cond good told Bad }
-{
-    if good { told } else { Record::Bad }
-}
-
-fn if_whole(bytes: &[u8], least: usize, most: usize, told: Record) -> Record
+fn if_whole(bytes: &[u8], least: usize, most: usize, told: Option<Record>) -> Option<Record>
     ensures { result ≡ if_whole least most bytes.now told }
 {
-    if_good(whole(bytes, least, most), told)
-}
-
-fn insertion(number: u8, protection: u8) -> Record
-    ensures { result ≡ insert_record number protection }
-{
-    if_good(protection <= 1, Record::Insert(number, protection == 1))
-}
-
-// How many bytes follow the header.
-fn after_header(bytes: &[u8]) -> usize
-    ensures { result ≡ length_field bytes.now - 4 }
-{
-    let length = length_field(bytes);
-    if length < HEADER_BYTES {
-        0
+    if whole(bytes, least, most) {
+        told
     } else {
-        length - HEADER_BYTES
+        None
     }
 }
 
-fn pull(low: u8, high: u8) -> Record
+fn insertion(number: u8, protection: u8) -> Option<Record>
+    ensures { result ≡ insert_record number protection }
+{
+    (protection <= 1).then_some(Record::Insert(number, protection == 1))
+}
+
+fn pull(low: u8, high: u8) -> Option<Record>
     ensures { result ≡ pull_record low high }
 {
     let count = little_of(low, high);
-    if_good(count <= PIECE_BYTES, Record::Pull(count))
+    (count <= PIECE_BYTES).then_some(Record::Pull(count))
 }
 
-// The record at the front of a script.
-pub fn first_record(bytes: &[u8]) -> Record
+// The record at the front of a script, if it is not bad.
+#[tactic(auto, unfolding(crate::specs::Records::record_of, crate::specs::Records::script_rows))]
+pub fn first_record(bytes: &[u8]) -> Option<Record>
     ensures { result ≡ record_of bytes.now }
 {
-    let kind = kind_field(bytes);
-    match kind {
+    match kind_field(bytes) {
         INSERT => if_whole(
             bytes,
             INSERT_BYTES,
             INSERT_BYTES,
             insertion(byte(bytes, 4), byte(bytes, 5)),
         ),
-        EJECT => if_whole(bytes, EJECT_BYTES, EJECT_BYTES, Record::Eject),
-        COMMAND => if_whole(bytes, COMMAND_BYTES, COMMAND_BYTES, Record::Command),
-        FEED => if_whole(
-            bytes,
-            HEADER_BYTES,
-            RECORD_BYTES,
-            Record::Feed(after_header(bytes)),
-        ),
+        EJECT => if_whole(bytes, EJECT_BYTES, EJECT_BYTES, Some(Record::Eject)),
+        COMMAND => if_whole(bytes, COMMAND_BYTES, COMMAND_BYTES, Some(Record::Command)),
+        FEED => {
+            // how many bytes follow the header
+            let piece = length_field(bytes).saturating_sub(HEADER_BYTES);
+            if_whole(bytes, HEADER_BYTES, RECORD_BYTES, Some(Record::Feed(piece)))
+        }
         PULL => if_whole(
             bytes,
             PULL_BYTES,
             PULL_BYTES,
             pull(byte(bytes, 4), byte(bytes, 5)),
         ),
-        _ => Record::Bad,
+        _ => None,
     }
 }

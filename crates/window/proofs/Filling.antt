@@ -1,26 +1,25 @@
 -- A room that is filled comes nearer to its end with each read, and in the end has the bytes that come. Assumes nothing.
-use Rattle.std.specs.Prelude.{◌≡◌, ◌||◌, ◌++◌, ◌+◌, ◌-◌, ◌<◌, ◌≤◌}
-use Rattle.ground.specs.Kit.{refl, sym, ap, ◌∙◌, Bool, true, false, cond, false≢true, List, [], append_assoc, ℕ, zero, suc, min, sub-zero, arith, leb-true, leb-false, leb, length, take, drop, get_or, length-append, length-take, length-drop, take-append-drop, take-append_seam}
+use Rattle.std.specs.Prelude.{◌≡◌, ◌||◌, ◌++◌, ◌+◌, ◌-◌, ◌<◌, ◌≤◌, Option, Some, None}
+use Rattle.ground.specs.Kit.{refl, sym, ap, ◌∙◌, Bool, true, false, cond, false≢true, List, [], append_assoc, ℕ, zero, suc, min, sub-zero, arith, eqb-true, eqb-false, eqb, leb-true, leb-false, leb, length, take, drop, get_or, length-append, length-take, length-drop, take-append-drop, take-append_seam}
+use Rattle.std.proofs.lemmas.List.{take_min}
 use Rattle.window.specs.declared.{Window.Window}
-use lib.IntN.{ℤ, pos, negsuc}
-use lib.Signed.{le_z}
-use Rattle.window.specs.Windows.{Held, held, opened_of, brought_of}
+use Rattle.window.specs.Windows.{Held, held, opened_of, brought_of, last_b}
 use Rattle.window.specs.Streams.{brings}
 use Rattle.window.specs.Loops.{Leaves, refilled}
 use Rattle.window.specs.Filling.{missing, filling, AnyFilling}
-use Rattle.window.proofs.Windows.{cut, unread_long}
+use Rattle.window.proofs.Windows.{unread_long}
 use Rattle.window.proofs.Holding.{opened_holds}
 use Rattle.window.proofs.Loops.{Fits, read_fits}
 
 -- a read into a room of that size brings a byte at the least, or is the last
-pub nearer : (window : Window) (got : ℤ) (size : ℕ) → window.ended ≡ false → window.upto < size
-    → size - (window.upto + brought_of got (size - window.upto)) + cond (le_z got (pos 0)) 0 1 < missing window size
-nearer window (negsuc k) size goes some = rw goes (omega (arith, some))
-nearer window (pos k) size goes some = rw goes (here (leb k 0) refl)
+pub nearer : (window : Window) (read : Option ℕ) (size : ℕ) → window.ended ≡ false → window.upto < size
+    → size - (window.upto + brought_of read (size - window.upto)) + cond (last_b read) 0 1 < missing window size
+nearer window None size goes some = rw goes (omega (arith, some))
+nearer window (Some k) size goes some = rw goes (here (eqb k 0) refl)
   where
-    here : (b : Bool) → leb k 0 ≡ b → size - (window.upto + min k (size - window.upto)) + cond b 0 1 < size - window.upto + 1
+    here : (b : Bool) → eqb k 0 ≡ b → size - (window.upto + min k (size - window.upto)) + cond b 0 1 < size - window.upto + 1
     here true e = omega (arith, some)
-    here false e = omega (arith, some, leb-false k 0 e)
+    here false e = omega (arith, some, eqb-false k 0 e)
 
 -- a window from the front of a room of that size on the bytes so far, with those that are still to come: none once it has ended
 record Front (size : ℕ) (bytes coming : List ℕ) (h : Held) : Type 0 where
@@ -40,7 +39,7 @@ full {size} {bytes} {coming} {h} f e =
     let all : min size (length (bytes ++ coming)) ≡ length bytes = omega (arith, length-append bytes coming) in (
       upto ∙ sym all,
       f.fits.long,
-      (rw (f.front, sub-zero h.window.upto) at f.fits.same) ∙ rw (← cut size (bytes ++ coming), all, take-append_seam bytes coming),
+      (rw (f.front, sub-zero h.window.upto) at f.fits.same) ∙ rw (← take_min size (bytes ++ coming), all, take-append_seam bytes coming),
     )
 
 module _ (leaves : ℕ → List ℕ → List ℕ) (keeps : Leaves leaves) where
@@ -67,10 +66,10 @@ module _ (leaves : ℕ → List ℕ → List ℕ) (keeps : Leaves leaves) where
           let some : h.window.upto < length h.room = leb-false (length h.room) h.window.upto e in
           let m = min (suc (get_or parts 0 0)) (length h.room - h.window.upto) in
           let long = length-take m coming in
-          let none : leb (length more) 0 ≡ true → length later ≡ 0 = λ z. omega (arith, leb-true (length more) 0 z, length-drop (length more) coming) in
-          let whole : more ++ later ≡ coming = rw (long, ← cut m coming) (take-append-drop (min m (length coming)) coming) in
+          let none : eqb (length more) 0 ≡ true → length later ≡ 0 = λ z. omega (arith, eqb-true (length more) 0 z, length-drop (length more) coming) in
+          let whole : more ++ later ≡ coming = rw (long, ← take_min m coming) (take-append-drop (min m (length coming)) coming) in
           let read = read_fits size bytes h f.fits more (omega arith) (leaves n) (keeps n) in
-          let less = nearer h.window (pos (length more)) size goes (omega arith) in
+          let less = nearer h.window (Some (length more)) size goes (omega arith) in
           rw (append_assoc bytes more later, whole) at
           (on size (bytes ++ more) later (drop 1 parts) (refilled (leaves n) h more) (record { fits = read; front = f.front; over = none })
           (rw read.long (omega arith)))

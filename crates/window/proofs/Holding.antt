@@ -1,26 +1,15 @@
 -- What is unread after each function, and what a window holds of the bytes that came. Assumes nothing.
-use Rattle.std.specs.Prelude.{◌≡◌, ◌∷◌, ◌++◌, ◌+◌, ◌-◌, ◌≤◌}
-use Rattle.ground.specs.Kit.{refl, sym, ap, ◌∙◌, Bool, true, false, List, [], ℕ, zero, suc, min, sub-zero, arith, leb-true, leb-false, leb, length, take, drop, length-append, length-drop, length-take-le, take-nil, take-append-add, take-append_seam, drop-append-le, drop-drop, drop_of_length-le, le_refl}
+use Rattle.std.specs.Prelude.{◌≡◌, ◌∷◌, ◌++◌, ◌+◌, ◌-◌, ◌≤◌, Option, Some, None}
+use Rattle.ground.specs.Kit.{refl, sym, ap, ◌∙◌, Bool, true, false, List, [], ℕ, zero, suc, min, sub-zero, arith, leb-true, leb-false, leb, length, take, drop, length-append, length-drop, length-take-le, take-nil, take-append-add, take-append_seam, drop-append-le, drop-drop}
+use Rattle.std.proofs.lemmas.List.{drop_min}
 use Rattle.window.specs.Windows.{unread, used_of, brought_of}
 use Rattle.window.specs.Holding.{UsedUnread, ToFrontUnread, CameUnread, OpenedHolds, UsedHolds, WithinStays, ToFrontHolds, SettledHolds, CameHolds}
-use Rattle.window.proofs.Answers.{at_most}
 
 pub drop_taken : (c n : ℕ) (l : List ℕ) → drop c (take n l) ≡ take (n - c) (drop c l)
 drop_taken zero n l = rw (sub-zero n)
 drop_taken (suc c) zero l = let none : 0 - suc c ≡ 0 = omega arith in rw none
 drop_taken (suc c) (suc n) [] = rw (take-nil (suc n - suc c))
 drop_taken (suc c) (suc n) (x ∷ l) = let less : suc n - suc c ≡ n - c = omega arith in rw less (drop_taken c n l)
-
--- as many as there are
-drop_cut : (n : ℕ) (l : List ℕ) → drop (min n (length l)) l ≡ drop n l
-drop_cut n l = here (leb n (length l)) refl
-  where
-    here : (b : Bool) → leb n (length l) ≡ b → drop (min n (length l)) l ≡ drop n l
-    here true e = let some : min n (length l) ≡ n = omega (arith, leb-true n (length l) e) in rw some
-    here false e =
-        let all : min n (length l) ≡ length l = omega (arith, leb-false n (length l) e) in
-        let less : length l ≤ n = omega (arith, leb-false n (length l) e) in
-        rw (all, drop_of_length-le l (le_refl (length l)), drop_of_length-le l less)
 
 pub used_unread : UsedUnread
 used_unread window room count = rw (drop_taken count n (drop from room)) (here (leb count n) refl)
@@ -46,12 +35,12 @@ to_front_unread window room =
     let bytes = unread window room in rw (sub-zero (length bytes)) (take-append_seam bytes (drop (length bytes) room))
 
 pub came_unread : CameUnread
-came_unread window room behind got o =
+came_unread window room behind read o =
     let front = take window.upto room in
     let long : length front ≡ window.upto = length-take-le window.upto room o.there in
     let rest : length (front ++ behind) - window.upto ≡ length behind = omega (arith, length-append front behind) in
     let left : length (drop window.from front) ≡ window.upto - window.from = omega (arith, length-drop window.from front) in
-    let k = brought_of got (length behind) in
+    let k = brought_of read (length behind) in
     let all : window.upto + k - window.from ≡ length (drop window.from front) + k = omega (arith, o.order) in
     rw (rest, all, drop-append-le window.from front behind (omega (arith, o.order)), take-append-add (drop window.from front) behind k, drop_taken window.from window.upto room)
 
@@ -64,7 +53,7 @@ used_holds came used window room count h =
     let more = min count (length bytes) in
     record {
       few = omega (arith, h.few, ap length h.bytes, length-drop used came);
-      bytes = used_unread window room count ∙ sym (drop_cut count bytes) ∙ ap (drop more) h.bytes ∙ drop-drop more used came;
+      bytes = used_unread window room count ∙ sym (drop_min count bytes) ∙ ap (drop more) h.bytes ∙ drop-drop more used came;
       ends = record { order = omega (arith, h.ends.order); there = h.ends.there };
     }
 
@@ -87,15 +76,20 @@ pub settled_holds : SettledHolds
 settled_holds came used window true room h = to_front_holds came used window room h
 settled_holds came used window false room h = h
 
+-- no more than there is room for
+at_most : (read : Option ℕ) (most : ℕ) → brought_of read most ≤ most
+at_most (Some got) most = omega arith
+at_most None most = omega arith
+
 pub came_holds : CameHolds
-came_holds came used window room behind got h =
+came_holds came used window room behind read h =
     let front = take window.upto room in
     let size : length (front ++ behind) ≡ window.upto + length behind =
     omega (arith, length-append front behind, length-take-le window.upto room h.ends.there) in
-    let most = at_most got (length (front ++ behind) - window.upto) in
-    let brought = take (brought_of got (length behind)) behind in
+    let most = at_most read (length (front ++ behind) - window.upto) in
+    let brought = take (brought_of read (length behind)) behind in
     record {
       few = omega (arith, h.few, length-append came brought);
-      bytes = rw (came_unread window room behind got h.ends, h.bytes, drop-append-le used came brought h.few);
+      bytes = rw (came_unread window room behind read h.ends, h.bytes, drop-append-le used came brought h.few);
       ends = record { order = omega (arith, h.ends.order); there = omega (arith, most, size) };
     }

@@ -1,5 +1,3 @@
-pub mod Answers
-pub mod Moving
 pub mod Windows
 pub mod Holding
 pub mod Streams

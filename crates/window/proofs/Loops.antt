@@ -1,7 +1,6 @@
 -- The loop over a window reads as the machine does. Assumes nothing.
-use Rattle.std.specs.Prelude.{◌≡◌, ◌&&◌, ◌++◌, ◌+◌, ◌-◌, ◌≤◌}
-use Rattle.ground.specs.Kit.{refl, ap, ◌∙◌, Bool, true, false, cond, not, List, ℕ, zero, suc, min, arith, lt-leb, eqb-suc-zero, eqb, leb, length, take, drop, get_or, length-append, length-take, length-drop, length-take-le, take-append_seam}
-use lib.IntN.{pos}
+use Rattle.std.specs.Prelude.{◌≡◌, ◌&&◌, ◌++◌, ◌+◌, ◌-◌, ◌≤◌, Some}
+use Rattle.ground.specs.Kit.{refl, ap, ◌∙◌, Bool, true, false, cond, not, List, ℕ, zero, suc, min, arith, eqb, length, take, drop, get_or, length-append, length-take, length-drop, length-take-le, take-append_seam}
 use Rattle.window.specs.declared.{Window.Window}
 use Rattle.window.specs.Windows.{Held, held, unread, opened_of, used_of, to_front_of}
 use Rattle.window.specs.Streams.{Turn, Machine, Closing, brings, saying, reading}
@@ -10,11 +9,6 @@ use Rattle.window.specs.Loops.{Leaves, refilled, loop_turn, looping, LoopReads, 
 use Rattle.window.proofs.Windows.{unread_long}
 use Rattle.window.proofs.Holding.{used_unread, within_stays, to_front_unread, came_holds}
 use Rattle.window.proofs.Streams.{any_parts}
-
--- a read that brings none is the last
-last_alike : (n : ℕ) → leb n 0 ≡ eqb n 0
-last_alike zero = refl
-last_alike (suc n) = rw (lt-leb (suc n) 0 (omega arith), eqb-suc-zero n)
 
 -- a window of the same unread bytes within a room of that length
 pub record Fits (size : ℕ) (bytes : List ℕ) (h : Held) : Type 0 where
@@ -38,7 +32,7 @@ module _ (size : ℕ) (bytes : List ℕ) (h : Held) (f : Fits size bytes h) (mor
   read_fits =
       let there = length-take-le upto h.room f.ends.there in
       let last = length-drop (upto + length more) h.room in
-      let held = came_holds (unread h.window h.room) 0 h.window h.room behind (pos (length more))
+      let held = came_holds (unread h.window h.room) 0 h.window h.room behind (Some (length more))
       (record { few = omega arith; bytes = refl; ends = f.ends }) in
       let whole : min (length more) (length behind) ≡ length more = omega (arith, length-append more (leaves past)) in
       record {
@@ -96,8 +90,7 @@ module _ {S : Type 0} (step : Machine S) (closes : Closing S) (leaves : ℕ → 
         let brought : brings (length front.room - front.window.upto) (get_or parts 0 0) coming ≡ more = rw (fit.long, up) in
         let fits : front.window.upto + length more ≤ size = omega (arith, up, length-take m coming, fit.ends.there, fit.long) in
         rw brought
-        (on s size (bytes ++ more) (refilled (leaves n) front more) later (drop 1 parts) (read_fits size bytes front fit more fits (leaves n) (keeps n))
-        ∙ ap (λ (e : Bool). reading step closes size n s (bytes ++ more) e later (drop 1 parts)) (last_alike (length more)))
+        (on s size (bytes ++ more) (refilled (leaves n) front more) later (drop 1 parts) (read_fits size bytes front fit more fits (leaves n) (keeps n)))
 
     after-record : (next : S) (used : ℕ)
         → looping step closes leaves n next (held (used_of h.window used) h.room) coming parts

@@ -1,16 +1,12 @@
 -- In whatever parts the bytes come, the same is said of them. Assumes nothing.
 use Rattle.std.specs.Prelude.{◌≡◌, ◌∷◌, ◌++◌, ◌+◌, ◌-◌, ◌<◌, ◌≤◌}
-use Rattle.ground.specs.Kit.{refl, sym, ap, ◌∙◌, Bool, true, false, cond, not, false≢true, true≢false, List, [], append-nil, append_assoc, ℕ, zero, suc, min, arith, eqb-true, eqb-false, eqb, length, take, drop, get_or, length-append, length-take, length-drop, take-append-drop, drop-append_seam, drop-append-le}
+use Rattle.ground.specs.Kit.{refl, sym, ap, ◌∙◌, Bool, true, false, cond, not, false≢true, true≢false, List, [], append-nil, append_assoc, ℕ, zero, suc, min, arith, eqb-true, eqb-false, eqb, length, take, drop, get_or, length-append, length-take, length-drop, take-append-drop, drop-append-le}
+use Rattle.std.proofs.lemmas.List.{drop_min, nil_from_length}
 use Rattle.window.specs.Streams.{Turn, Machine, Closing, says_from, brings, reading, Steady, AnyParts}
 
 -- the first bytes of an input and those behind them
 whole : (n : ℕ) (bytes : List ℕ) → take n bytes ++ drop (length (take n bytes)) bytes ≡ bytes
-whole n bytes = rw (rw (take-append-drop n bytes) at (drop-append_seam (take n bytes) (drop n bytes)), take-append-drop n bytes)
-
--- no bytes, no length
-empty : (bytes : List ℕ) → length bytes ≡ 0 → bytes ≡ []
-empty [] e = refl
-empty (x ∷ xs) e = absurd (omega (arith, e))
+whole n bytes = rw (length-take n bytes, drop_min n bytes) (take-append-drop n bytes)
 
 -- the bytes behind the unread ones
 abbrev rest : Bool → List ℕ → List ℕ
@@ -69,7 +65,7 @@ module _ {S : Type 0} (step : Machine S) (closes : Closing S) (room : ℕ) (stea
                 let front = length-append unread more in
                 let zero = eqb-true (length more) 0 z in
                 let ends : unread ++ more ++ [] ≡ unread ++ coming =
-                rw (empty more zero, empty coming (omega (arith, few, long, zero)), append-nil (unread ++ [])) in
+                rw (nil_from_length more zero, nil_from_length coming (omega (arith, few, long, zero)), append-nil (unread ++ [])) in
                 after _ k s (unread ++ more) true (drop (length more) coming) (drop 1 parts)
                 (record { turns = omega (arith, few, long, front, zero, h.turns); bound = omega (arith, few, long, front, zero, h.bound) }) refl
                 ∙ ap (says_from step closes k s) ends

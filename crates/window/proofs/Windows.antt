@@ -1,14 +1,10 @@
 -- The unread bytes, where the ends of the window lie within the room. Assumes nothing.
 use Rattle.std.specs.Prelude.{◌≡◌, ◌-◌}
-use Rattle.ground.specs.Kit.{refl, Bool, true, false, List, ℕ, min, arith, leb-true, leb-false, leb, length, take, drop, length-take, length-drop, take-append-drop, take-append_seam}
+use Rattle.ground.specs.Kit.{refl, Bool, true, false, List, ℕ, min, arith, leb-true, leb-false, leb, length, take, drop, length-take, length-drop}
+use Rattle.std.proofs.lemmas.List.{take_min}
 use Rattle.window.specs.declared.{Window.Window}
-use Rattle.window.specs.Windows.{unread, within_of, held, to_front_of}
+use Rattle.window.specs.Windows.{unread, within_of}
 use Rattle.window.specs.Holding.{Open, WithinUnread}
-use Rattle.window.proofs.Moving.{gone}
-
--- as many as there are
-pub cut : (n : ℕ) (bytes : List ℕ) → take (min n (length bytes)) bytes ≡ take n bytes
-cut n bytes = rw (take-append-drop n bytes, length-take n bytes) at (take-append_seam (take n bytes) (drop n bytes))
 
 pub unread_long : (window : Window) (room : List ℕ) → Open window room → length (unread window room) ≡ window.upto - window.from
 unread_long window room o = simp (length-take, length-drop) (omega arith)
@@ -19,7 +15,7 @@ ends from upto size = omega arith
 
 pub within_unread : WithinUnread
 within_unread window room =
-    rw (← cut (window.upto - window.from) (drop window.from room), length-drop window.from room, ends window.from window.upto (length room))
+    rw (← take_min (window.upto - window.from) (drop window.from room), length-drop window.from room, ends window.from window.upto (length room))
     (here (leb window.from upto) refl)
   where
     upto : ℕ
@@ -32,11 +28,3 @@ within_unread window room =
 
 pub within_open : (window w : Window) (room : List ℕ) → w ≡ within_of window room → Open w room
 within_open window w room e = rw e (record { order = omega arith; there = omega arith })
-
--- the unread bytes, moved as those of the window within the room
-pub moved : (window w : Window) (room after : List ℕ) → w ≡ within_of window room → after ≡ gone room w.from (w.upto - w.from)
-    → held (record { from = 0; upto = w.upto - w.from; ended = window.ended }) after ≡ to_front_of window room
-moved window w room after e f =
-    let same : unread w room ≡ unread window room = rw e (within_unread window room) in
-    let long : length (unread w room) ≡ w.upto - w.from = unread_long w room (within_open window w room e) in
-    rw (f, ← same, long)

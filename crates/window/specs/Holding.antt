@@ -1,5 +1,5 @@
 -- What is unread after each function, and what a window holds of the bytes that came; proved in `proofs/`, `UsedUnread` as `used_unread`.
-use Rattle.std.specs.Prelude.{◌≡◌, ◌++◌, ◌+◌, ◌≤◌, ℤ}
+use Rattle.std.specs.Prelude.{◌≡◌, ◌++◌, ◌+◌, ◌≤◌, Option}
 use Rattle.ground.specs.Kit.{Bool, List, [], ℕ, min, length, take, drop}
 use Rattle.window.specs.declared.{Window.Window}
 use Rattle.window.specs.Windows.{unread, opened_of, used_of, within_of, to_front_of, settled_of, brought_of, came_of}
@@ -23,9 +23,9 @@ ToFrontUnread = (window : Window) (room : List ℕ) → let front = to_front_of 
 
 -- a read that leaves the room up to `upto`: the bytes that it brought come behind
 abbrev pub CameUnread : Type 0
-CameUnread = (window : Window) (room behind : List ℕ) (got : ℤ) → Open window room
+CameUnread = (window : Window) (room behind : List ℕ) (read : Option ℕ) → Open window room
     → let after = take window.upto room ++ behind in
-    unread (came_of window got after) after ≡ unread window room ++ take (brought_of got (length behind)) behind
+    unread (came_of window read after) after ≡ unread window room ++ take (brought_of read (length behind)) behind
 
 -- ---- of the bytes that came
 
@@ -57,6 +57,6 @@ SettledHolds = (came : List ℕ) (used : ℕ) (window : Window) (due : Bool) (ro
     → let front = settled_of window due room in Holds came used front.window front.room
 
 abbrev pub CameHolds : Type 0
-CameHolds = (came : List ℕ) (used : ℕ) (window : Window) (room behind : List ℕ) (got : ℤ) → Holds came used window room
+CameHolds = (came : List ℕ) (used : ℕ) (window : Window) (room behind : List ℕ) (read : Option ℕ) → Holds came used window room
     → let after = take window.upto room ++ behind in
-    Holds (came ++ take (brought_of got (length behind)) behind) used (came_of window got after) after
+    Holds (came ++ take (brought_of read (length behind)) behind) used (came_of window read after) after

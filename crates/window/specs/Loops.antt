@@ -1,5 +1,5 @@
 -- The loop of a program over a window: a turn of any machine on what is unread, and a read where one is due.
-use Rattle.std.specs.Prelude.{◌≡◌, ◌++◌, ◌+◌, ◌-◌, ◌≤◌, pos}
+use Rattle.std.specs.Prelude.{◌≡◌, ◌++◌, ◌+◌, ◌-◌, ◌≤◌, Some}
 use Rattle.ground.specs.Kit.{cond, List, [], ℕ, zero, suc, length, take, drop, get_or}
 use Rattle.window.specs.declared.{Window.Window}
 use Rattle.window.specs.Windows.{Held, held, unread, opened_of, used_of, within_of, due_of, settled_of, came_of}
@@ -15,7 +15,7 @@ abbrev pub refilled : (List ℕ → List ℕ) → Held → List ℕ → Held
 refilled leaves h more =
     let upto = h.window.upto in
     let room = take upto h.room ++ (more ++ leaves (drop (upto + length more) h.room)) in
-    held (came_of h.window (pos (length more)) room) room
+    held (came_of h.window (Some (length more)) room) room
 
 -- one turn, with what is said from then on: the bytes of a record are used, and where a read is due it comes behind those that are not
 abbrev pub loop_turn : {S : Type 0} → Closing S → (S → Held → List ℕ → List ℕ → List ℕ) → (List ℕ → List ℕ) → S → Turn S → Window → List ℕ → List ℕ

@@ -1,8 +1,7 @@
 -- The window on bytes that come a part at a time: of a lent room, the bytes from `from` up to `upto` have come and are not yet used.
-use Rattle.std.specs.Prelude.{◌&&◌, ◌++◌, ◌+◌, ◌-◌, ℤ, pos, negsuc}
-use Rattle.ground.specs.Kit.{Bool, false, cond, not, List, ℕ, min, length, take, drop}
+use Rattle.std.specs.Prelude.{◌&&◌, ◌++◌, ◌+◌, ◌-◌, Option, Some, None}
+use Rattle.ground.specs.Kit.{Bool, true, false, cond, not, List, ℕ, min, eqb, length, take, drop}
 use Rattle.window.specs.declared.{Window.Window}
-use Rattle.std.specs.Int.Signed.{le_z}
 
 abbrev pub unread : Window → List ℕ → List ℕ
 unread window room = take (window.upto - window.from) (drop window.from room)
@@ -41,12 +40,16 @@ due_of window waits = waits && not window.ended
 abbrev pub settled_of : Window → Bool → List ℕ → Held
 settled_of window due room = cond due (to_front_of window room) (held window room)
 
--- how many bytes a read brought, by what it answered and how many there was room for: none where it failed
-abbrev pub brought_of : ℤ → ℕ → ℕ
-brought_of (pos got) most = min got most
-brought_of (negsuc _) most = 0
+-- how many bytes a read brought, by how many it answered and how many there was room for: none where it failed
+abbrev pub brought_of : Option ℕ → ℕ → ℕ
+brought_of (Some got) most = min got most
+brought_of None most = 0
 
--- a read that answers 0 or less is the last
-abbrev pub came_of : Window → ℤ → List ℕ → Window
-came_of window got room =
-    record { from = window.from; upto = window.upto + brought_of got (length room - window.upto); ended = le_z got (pos 0) }
+-- a read that answers 0 or fails is the last
+abbrev pub last_b : Option ℕ → Bool
+last_b (Some got) = eqb got 0
+last_b None = true
+
+abbrev pub came_of : Window → Option ℕ → List ℕ → Window
+came_of window read room =
+    record { from = window.from; upto = window.upto + brought_of read (length room - window.upto); ended = last_b read }

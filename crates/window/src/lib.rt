@@ -1,7 +1,7 @@
 // The window on bytes that come a part at a time.
 #![tactic(auto)]
 
-ghost use Rattle.std.specs.Prelude.{◌≡◌, ◌++◌, ◌+◌, ◌-◌, ◌≤◌};
+ghost use Rattle.std.specs.Prelude.{◌≡◌, ◌++◌, ◌+◌, ◌≤◌};
 ghost use Rattle.ground.specs.Kit.{length, take, drop};
 ghost use Rattle.window.specs.Windows.{opened_of, used_of, within_of, held, to_front_of, due_of, settled_of, brought_of, came_of};
 
@@ -14,13 +14,6 @@ pub struct Window {
     pub upto: usize,
     // no more bytes come
     pub ended: bool,
-}
-
-// How much more `a` is than `b`, 0 where it is less.
-fn above(a: usize, b: usize) -> usize
-    ensures { result ≡ a - b }
-{
-    if a < b { 0 } else { a - b }
 }
 
 // Nothing has come.
@@ -38,11 +31,10 @@ pub fn opened() -> Window
 pub fn used(window: Window, count: usize) -> Window
     ensures { result ≡ used_of window count }
 {
-    let unread = above(window.upto, window.from);
+    let unread = window.upto.saturating_sub(window.from);
     Window {
         from: window.from + least(count, unread),
-        upto: window.upto,
-        ended: window.ended,
+        ..window
     }
 }
 
@@ -53,8 +45,8 @@ pub fn within(window: Window, room: &[u8]) -> Window
     let upto = least(window.upto, room.len());
     Window {
         from: least(window.from, upto),
-        upto: upto,
-        ended: window.ended,
+        upto,
+        ..window
     }
 }
 
@@ -63,9 +55,7 @@ fn advance(room: &mut [u8], from: usize, count: usize)
     requires { from + count ≤ length room.old }
     ensures { room.new ≡ take count (drop from room.old) ++ drop count room.old }
 {
-    for at in 0..count {
-        room[at] = room[from + at];
-    }
+    room.copy_within(from..from + count, 0);
 }
 
 // The unread bytes go to the front of the room, the rest of the room stays.
@@ -78,7 +68,7 @@ pub fn to_front(window: Window, room: &mut [u8]) -> Window
     Window {
         from: 0,
         upto: count,
-        ended: window.ended,
+        ..window
     }
 }
 
@@ -97,24 +87,20 @@ pub fn settled(window: Window, due: bool, room: &mut [u8]) -> Window
 }
 
 // How many bytes a read brought that had room for so many.
-fn brought(got: isize, most: usize) -> usize
-    ensures { result ≡ brought_of got most }
+fn brought(read: Option<usize>, most: usize) -> usize
+    ensures { result ≡ brought_of read most }
 {
-    if got > 0 {
-        least(got as usize, most)
-    } else {
-        0
-    }
+    read.map_or(0, |got| least(got, most))
 }
 
-// After a read into the room behind the unread bytes; a read that failed brings nothing, and the bytes end there.
-pub fn came(window: Window, got: isize, room: &[u8]) -> Window
-    ensures { result ≡ came_of window got room.now }
+// After a read into the room behind the unread bytes; a read that failed (`None`) brings nothing, and the bytes end there.
+pub fn came(window: Window, read: Option<usize>, room: &[u8]) -> Window
+    ensures { result ≡ came_of window read room.now }
 {
-    let most = above(room.len(), window.upto);
+    let most = room.len().saturating_sub(window.upto);
     Window {
-        from: window.from,
-        upto: window.upto + brought(got, most),
-        ended: got <= 0,
+        upto: window.upto + brought(read, most),
+        ended: matches!(read, None | Some(0)),
+        ..window
     }
 }
