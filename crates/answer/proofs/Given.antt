@@ -4,7 +4,7 @@ use Rattle.ground.specs.Kit.{sym, ◌∙◌, ap, List, ℕ, arith, length, lengt
 use Rattle.state.specs.declared.{Media.Media, Sense.Sense}
 use Rattle.packet.specs.declared.{Answering.Answering}
 use Rattle.ground.specs.Filling.{Filled}
-use Rattle.answer.specs.Giving.{put_of, give_of}
+use Rattle.answer.specs.Giving.{give_of}
 use Rattle.answer.specs.Theorems.{OneGiving}
 
 module _ (a : Answering) (m : Media) (sense : Sense) (p : List ℕ) (allocation : ℕ) (buffer : List ℕ) where
@@ -15,10 +15,6 @@ module _ (a : Answering) (m : Media) (sense : Sense) (p : List ℕ) (allocation 
   pub give_length : length (give_of a m sense p allocation buffer).bytes ≡ length buffer
   unfolding give_of
   give_length = simp (length-append, length-take, length-drop) (omega arith)
-
--- an answer's bytes for another's that are equal
-pub put_alike : (answer other : List ℕ) → answer ≡ other → (allocation : ℕ) (buffer : List ℕ) → put_of answer allocation buffer ≡ put_of other allocation buffer
-put_alike answer other e allocation buffer = ap (λ (bytes : List ℕ). put_of bytes allocation buffer) e
 
 pub one_giving : OneGiving
 one_giving f r q b c e g =

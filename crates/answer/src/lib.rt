@@ -1,8 +1,7 @@
 // The five answers as bytes, and how one is put at the start of the block buffer.
 #![tactic(auto)]
 
-ghost use Rattle.std.specs.Prelude.{◌≡◌, ◌-◌};
-ghost use Rattle.ground.specs.Kit.{cond};
+ghost use Rattle.std.specs.Prelude.{◌≡◌};
 ghost use Rattle.answer.specs.Answers.{sense_data, inquiry_to, capacity_data, with_disc_data, without_disc_data, mode_data, capacities_data};
 ghost use Rattle.ground.specs.Filling.{filled};
 ghost use Rattle.answer.specs.Giving.{put_of, give_of};
@@ -11,19 +10,18 @@ use packet::Answering;
 use state::{Media, Sense};
 
 // 03
+#[tactic(auto, unfolding(crate::specs::Answers::sense_data))]
 pub fn sense_data(sense: Sense) -> [u8; 18]
     ensures { result ≡ sense_data sense }
 {
-    let mut data = [0u8; 18];
-    data[0] = 0x70;
-    data[2] = sense.0;
-    data[7] = 0x0a;
-    data[12] = sense.1;
-    data[13] = sense.2;
-    data
+    let Sense(key, code, qualifier) = sense;
+    [
+        0x70, 0, key, 0, 0, 0, 0, 0x0a, 0, 0, 0, 0, code, qualifier, 0, 0, 0, 0,
+    ]
 }
 
 // 12; of a unit that isn't there the device type is 1F, none.
+#[tactic(auto, unfolding(crate::specs::Answers::inquiry_data))]
 pub fn inquiry_data(unit: u8) -> [u8; 36]
     ensures { result ≡ inquiry_to unit }
 {
@@ -34,97 +32,61 @@ pub fn inquiry_data(unit: u8) -> [u8; 36]
     data
 }
 
-fn last_of(blocks: u32) -> u32
-    ensures { result ≡ blocks - 1 }
-{
-    if blocks == 0 { 0 } else { blocks - 1 }
-}
-
 // 25
+#[tactic(auto, unfolding(crate::specs::Answers::capacity_data))]
 pub fn capacity_data(number: u8) -> [u8; 8]
     ensures { result ≡ capacity_data number }
 {
     let format = disc::format_of(number);
-    let last = last_of(format.blocks);
-    let size = format.size as u32;
-    [
-        (last / 16777216 % 256) as u8,
-        (last / 65536 % 256) as u8,
-        (last / 256 % 256) as u8,
-        (last % 256) as u8,
-        (size / 16777216 % 256) as u8,
-        (size / 65536 % 256) as u8,
-        (size / 256 % 256) as u8,
-        (size % 256) as u8,
-    ]
+    let [l3, l2, l1, l0] = format.blocks.saturating_sub(1).to_be_bytes();
+    let [s3, s2, s1, s0] = u32::from(format.size).to_be_bytes();
+    [l3, l2, l1, l0, s3, s2, s1, s0]
 }
 
 // 23 with a disc: its own descriptor with code 2, then with code 0.
+#[tactic(auto, unfolding(crate::specs::Answers::with_disc_data))]
 pub fn with_disc_data(number: u8) -> [u8; 20]
     ensures { result ≡ with_disc_data number }
 {
     let format = disc::format_of(number);
-    let blocks = format.blocks;
-    let size = format.size as u32;
-    let mut data = [0u8; 20];
-    data[3] = 16;
-    data[4] = (blocks / 16777216 % 256) as u8;
-    data[5] = (blocks / 65536 % 256) as u8;
-    data[6] = (blocks / 256 % 256) as u8;
-    data[7] = (blocks % 256) as u8;
-    data[8] = 2;
-    data[9] = (size / 65536 % 256) as u8;
-    data[10] = (size / 256 % 256) as u8;
-    data[11] = (size % 256) as u8;
-    data[12] = data[4];
-    data[13] = data[5];
-    data[14] = data[6];
-    data[15] = data[7];
-    data[17] = data[9];
-    data[18] = data[10];
-    data[19] = data[11];
-    data
+    let [b3, b2, b1, b0] = format.blocks.to_be_bytes();
+    let [_, s2, s1, s0] = u32::from(format.size).to_be_bytes();
+    [
+        0, 0, 0, 16, b3, b2, b1, b0, 2, s2, s1, s0, b3, b2, b1, b0, 0, s2, s1, s0,
+    ]
 }
 
 // 23 without: 2880 of 512 with code 3.
+#[tactic(auto, unfolding(crate::specs::Answers::without_disc_data))]
 pub fn without_disc_data() -> [u8; 12]
     ensures { result ≡ without_disc_data }
 {
     [0, 0, 0, 8, 0, 0, 0x0b, 0x40, 3, 0, 0x02, 0x00]
 }
 
-fn protection(protected: bool) -> u8
-    ensures { result ≡ cond protected 0x80 0x00 }
-{
-    if protected { 0x80 } else { 0x00 }
-}
-
 // 5A; of the changeable values, page control 1, the page is zeros after its length.
+#[tactic(auto, unfolding(crate::specs::Answers::mode_data))]
 pub fn mode_data(number: u8, protected: bool, changeable: bool) -> [u8; 40]
     ensures { result ≡ mode_data number protected changeable }
 {
     let format = disc::format_of(number);
-    let mut data = [0u8; 40];
+    let mut data = [0; 40];
     data[1] = 0x26;
     data[2] = format.medium;
-    data[3] = protection(protected);
+    data[3] = if protected { 0x80 } else { 0x00 };
     data[8] = 0x05;
     data[9] = 0x1e;
     if changeable {
         return data;
     }
-    data[10] = (format.rate / 256 % 256) as u8;
-    data[11] = (format.rate % 256) as u8;
+    data[10..12].copy_from_slice(&format.rate.to_be_bytes());
     data[12] = 0x02;
     data[13] = format.sectors;
-    data[14] = (format.size / 256 % 256) as u8;
-    data[15] = (format.size % 256) as u8;
-    data[16] = (format.cylinders / 256 % 256) as u8;
-    data[17] = (format.cylinders % 256) as u8;
+    data[14..16].copy_from_slice(&format.size.to_be_bytes());
+    data[16..18].copy_from_slice(&format.cylinders.to_be_bytes());
     data[27] = 0x05;
     data[28] = 0x1e;
-    data[36] = (format.rpm / 256 % 256) as u8;
-    data[37] = (format.rpm % 256) as u8;
+    data[36..38].copy_from_slice(&format.rpm.to_be_bytes());
     data
 }
 
@@ -132,20 +94,22 @@ pub fn mode_data(number: u8, protected: bool, changeable: bool) -> [u8; 40]
 fn put(answer: &[u8], allocation: usize, buffer: &mut [u8]) -> usize
     ensures { filled result buffer.new ≡ put_of answer.now allocation buffer.old }
 {
-    let cut = ground::least(allocation, answer.len());
-    ground::fill(&answer[..cut], buffer)
+    ground::fill(&answer[..allocation.min(answer.len())], buffer)
 }
 
+#[tactic(auto, unfolding(crate::specs::Answers::capacities_data))]
 fn put_capacities(number: u8, allocation: usize, buffer: &mut [u8]) -> usize
     ensures { filled result buffer.new ≡ put_of (capacities_data number) allocation buffer.old }
 {
     if number == 0 {
-        return put(&without_disc_data(), allocation, buffer);
+        put(&without_disc_data(), allocation, buffer)
+    } else {
+        put(&with_disc_data(number), allocation, buffer)
     }
-    put(&with_disc_data(number), allocation, buffer)
 }
 
 // An answer is put at the start of the buffer, as far as its allocation goes; the count says how far. The packet says what is asked for.
+#[tactic(auto, unfolding(crate::specs::Giving::give_of, crate::specs::Giving::answer_of, crate::specs::Giving::allocation_of))]
 pub fn give(
     answering: Answering,
     media: Media,

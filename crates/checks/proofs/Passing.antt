@@ -1,9 +1,8 @@
 -- What a verdict says: a command that passes has a rule and passed each of its checks, one that fails gives a named triple. Assumes nothing.
-use Rattle.std.specs.Prelude.{◌≡◌, ◌&&◌, ◌||◌, ◌+◌, ◌%◌, ◌≤◌, ◌<◌}
+use Rattle.std.specs.Prelude.{◌≡◌, ◌&&◌, ◌||◌, ◌+◌, ◌%◌, ◌≤◌, ◌<◌, Option, Some, None, Ok, Err}
 use Rattle.ground.specs.Kit.{refl, ap, Bool, true, false, false≢true, not, List, ℕ, arith, not-false, eqb-false, leb-false, ltb-false, eqb, leb, ltb}
 use Rattle.state.specs.declared.{Sense.Sense, Media.Media, Host.Host}
-use Rattle.packet.specs.declared.{Values.Values, Rule.Rule, Known.Known}
-use Rattle.checks.specs.declared.{Verdict.Verdict}
+use Rattle.packet.specs.declared.{Values.Values, Rule.Rule}
 use Rattle.ground.specs.Bytes.{byte_at}
 use Rattle.ground.proofs.Truth.{neither, implies}
 use Rattle.ground.proofs.First.{none_failed, outcome_passes}
@@ -15,18 +14,16 @@ use Rattle.packet.specs.Fields.{address_of, length_of}
 use Rattle.packet.specs.Rules.{rule_of}
 use Rattle.packet.specs.declared.Values.TheVariants.{Any, ZeroBits, Page, FormatUnit}
 use Rattle.packet.specs.declared.Field.TheVariants.{Bytes7To8}
-use Rattle.packet.specs.declared.Known.TheVariants.{Unknown, Base}
 use Rattle.packet.proofs.BaseCommands.{opens_b, writes_b, lists_b, formats_b, guarded}
-use Rattle.checks.specs.Verdicts.{other_unit_b, in_mask_b, bad_format_b, bad_value_b, past_end_b, fails_b, failing, checks_of, verdict_of, verdict}
-use Rattle.checks.specs.declared.Verdict.TheVariants.{Passes, Fails}
+use Rattle.checks.specs.Verdicts.{other_unit_b, in_mask_b, bad_format_b, bad_value_b, past_end_b, fails_b, failing, checks_of, Verdict, verdict_of, verdict}
 
 abbrev pub passes_b : Verdict → Bool
-passes_b (Passes rule) = true
-passes_b (Fails sense) = false
+passes_b (Ok rule) = true
+passes_b (Err sense) = false
 
 -- the checks A to H hold; of F2 nobody asks
 pub record Passed (m : Media) (h : Host) (p : List ℕ) (rule : Rule) : Type 0 where
-  pub known : rule_of p ≡ Base rule
+  pub known : rule_of p ≡ Some rule
   pub unit : (rule.asked.unit && other_unit_b p) ≡ false
   pub power : (rule.asked.attention && h.power) ≡ false
   pub change : (rule.asked.attention && h.change) ≡ false
@@ -37,14 +34,14 @@ pub record Passed (m : Media) (h : Host) (p : List ℕ) (rule : Rule) : Type 0 w
   pub unprotected : (rule.asked.unprotected && m.protected) ≡ false
 
 module _ (m : Media) (h : Host) (p : List ℕ) where
-  pub passed : (rule : Rule) → verdict m h p ≡ Passes rule → Passed m h p rule
+  pub passed : (rule : Rule) → verdict m h p ≡ Ok rule → Passed m h p rule
   unfolding verdict checks_of
   passed rule e = here (rule_of p) refl e
     where
-      here : (k : Known) → rule_of p ≡ k → verdict_of k m h p ≡ Passes rule → Passed m h p rule
-      here Unknown q f = absurd (let z : ◌≡◌ {A = ℕ} 0 1 = cc in omega arith)
-      here (Base own) q v =
-          let (b, outcome) = none_failed fails_b failing passes_b (checks_of m h own p) (Passes own) refl (ap passes_b v) in
+      here : (k : Option Rule) → rule_of p ≡ k → verdict_of k m h p ≡ Ok rule → Passed m h p rule
+      here None q f = absurd (let z : ◌≡◌ {A = ℕ} 0 1 = cc in omega arith)
+      here (Some own) q v =
+          let (b, outcome) = none_failed fails_b failing passes_b (checks_of m h own p) (Ok own) refl (ap passes_b v) in
           let c = b.1 in
           let d = c.1.1 in
           let f = d.1.1 in
@@ -65,23 +62,23 @@ module _ (m : Media) (h : Host) (p : List ℕ) where
 
   -- what the triple of each check passes, a triple that is given passes
   abbrev given_b : (Sense → Bool) → Verdict → Bool
-  given_b test (Passes rule) = true
-  given_b test (Fails sense) = test sense
+  given_b test (Ok rule) = true
+  given_b test (Err sense) = test sense
 
-  given_passes : (test : Sense → Bool) → test unknown_code ≡ true → ((rule : Rule) → all (λ c. test c.1) (checks_of m h rule p) ≡ true) → (sense : Sense)
-      → verdict m h p ≡ Fails sense → test sense ≡ true
+  given_passes : (test : Sense → Bool) → test unknown_code ≡ true → ((rule : Rule) → all (λ c. test c.sense) (checks_of m h rule p) ≡ true) → (sense : Sense)
+      → verdict m h p ≡ Err sense → test sense ≡ true
   unfolding verdict
   given_passes test unknown each sense e = rw e at (here (rule_of p))
     where
-      here : (k : Known) → given_b test (verdict_of k m h p) ≡ true
-      here Unknown = unknown
-      here (Base rule) = outcome_passes fails_b failing (given_b test) (checks_of m h rule p) (Passes rule) (each rule) refl
+      here : (k : Option Rule) → given_b test (verdict_of k m h p) ≡ true
+      here None = unknown
+      here (Some rule) = outcome_passes fails_b failing (given_b test) (checks_of m h rule p) (Ok rule) (each rule) refl
 
-  pub gives_named : (sense : Sense) → verdict m h p ≡ Fails sense → named_b sense ≡ true
+  pub gives_named : (sense : Sense) → verdict m h p ≡ Err sense → named_b sense ≡ true
   unfolding checks_of named_b
   gives_named = given_passes named_b refl (λ _. refl)
 
-  pub gives_told : (sense : Sense) → verdict m h p ≡ Fails sense → not (same_b sense no_sense) ≡ true
+  pub gives_told : (sense : Sense) → verdict m h p ≡ Err sense → not (same_b sense no_sense) ≡ true
   unfolding checks_of
   gives_told = given_passes (λ s. not (same_b s no_sense)) refl (λ _. refl)
 

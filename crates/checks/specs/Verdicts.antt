@@ -1,10 +1,9 @@
 -- Paper 01, "A command": "the first check to fail gives the sense".
-use Rattle.std.specs.Prelude.{◌&&◌, ◌||◌, ◌∷◌, ◌+◌, ◌/◌, ◌%◌}
+use Rattle.std.specs.Prelude.{◌&&◌, ◌||◌, ◌∷◌, ◌+◌, ◌/◌, ◌%◌, Option, Some, None, Result, Ok, Err}
 use Rattle.ground.specs.Kit.{Bool, true, false, not, List, [], ℕ, zero, suc, bit_and, eqb, leb, ltb}
 use Rattle.disc.specs.declared.{BlockAddress.BlockAddress}
 use Rattle.state.specs.declared.{Sense.Sense, Media.Media, Host.Host}
-use Rattle.packet.specs.declared.{Values.Values, Rule.Rule, Known.Known}
-use Rattle.checks.specs.declared.{Check.Check, Verdict.Verdict}
+use Rattle.packet.specs.declared.{Values.Values, Rule.Rule}
 use Rattle.disc.specs.Formats.{format_of}
 use Rattle.disc.specs.Masks.{mask_row}
 use Rattle.ground.specs.First.{first}
@@ -15,8 +14,6 @@ use Rattle.packet.specs.Fields.{address_of, length_of}
 use Rattle.packet.specs.Rules.{rule_of}
 use Rattle.packet.specs.declared.Values.TheVariants.{Any, ZeroBits, Page, FormatUnit}
 use Rattle.packet.specs.declared.Field.TheVariants.{Bytes7To8}
-use Rattle.packet.specs.declared.Known.TheVariants.{Unknown, Base}
-use Rattle.checks.specs.declared.Verdict.TheVariants.{Passes, Fails}
 
 -- not B: "unit number (byte 1, bits 7-5) is 0"
 abbrev pub other_unit_b : List ℕ → Bool
@@ -58,9 +55,14 @@ bad_control_b FormatUnit p = false
 abbrev pub past_end_b : ℕ → BlockAddress → ℕ → Bool
 past_end_b number from count = leb (format_of number).blocks from.0 || ltb (format_of number).blocks (from.0 + count)
 
+-- whether a check fails, and the triple that it then gives
+pub record Check : Type 0 where
+  pub fails : Bool
+  pub sense : Sense
+
 infix 20 ◌gives◌
 abbrev pub ◌gives◌ : Bool → Sense → Check
-fails gives sense = record { 0 = fails; 1 = sense }
+fails gives sense = record { fails = fails; sense = sense }
 
 -- B to H of a base command
 unfoldable pub checks_of : Media → Host → Rule → List ℕ → List Check
@@ -86,18 +88,22 @@ checks_of m h rule p =
 
 -- "the first check to fail gives the sense"
 abbrev pub fails_b : Check → Bool
-fails_b c = c.0
+fails_b c = c.fails
+
+-- the rule by which a packet passes, or the sense of the check that it fails
+abbrev pub Verdict : Type 0
+Verdict = Result Rule Sense
 
 abbrev pub failing : Check → Verdict
-failing c = Fails c.1
+failing c = Err c.sense
 
 abbrev pub first_of : List Check → Rule → Verdict
-first_of cs rule = first fails_b failing cs (Passes rule)
+first_of cs rule = first fails_b failing cs (Ok rule)
 
 -- A: "the operation code is a base command", then the others
-abbrev pub verdict_of : Known → Media → Host → List ℕ → Verdict
-verdict_of Unknown m h p = Fails unknown_code
-verdict_of (Base rule) m h p = first_of (checks_of m h rule p) rule
+abbrev pub verdict_of : Option Rule → Media → Host → List ℕ → Verdict
+verdict_of None m h p = Err unknown_code
+verdict_of (Some rule) m h p = first_of (checks_of m h rule p) rule
 
 unfoldable pub verdict : Media → Host → List ℕ → Verdict
 verdict m h p = verdict_of (rule_of p) m h p

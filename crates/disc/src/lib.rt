@@ -27,17 +27,19 @@ pub struct Format {
     pub medium: u8,
 }
 
-// Row 0 is no disc.
+const NO_DISC: Format = Format {
+    blocks: 0,
+    size: 0,
+    sectors: 0,
+    cylinders: 0,
+    rate: 0,
+    rpm: 0,
+    medium: 0,
+};
+
+// By number.
 const FORMATS: [Format; 5] = [
-    Format {
-        blocks: 0,
-        size: 0,
-        sectors: 0,
-        cylinders: 0,
-        rate: 0,
-        rpm: 0,
-        medium: 0,
-    },
+    NO_DISC,
     Format {
         blocks: 1440,
         size: 512,
@@ -100,34 +102,31 @@ const MASKS: [[u8; 12]; 17] = [
 ];
 
 // The row of a disc's number; no disc past the table.
-#[tactic(auto, using(crate::proofs::Discs::past_the_table), unfolding(crate::specs::Formats::format_of))]
+#[tactic(auto, unfolding(crate::specs::Formats::format_of))]
 pub fn format_of(number: u8) -> Format
     ensures { result ≡ format_of number }
 {
-    if number < 5 {
-        let row = number as usize;
-        FORMATS[row]
-    } else {
-        FORMATS[0]
-    }
+    FORMATS.get(usize::from(number)).copied().unwrap_or(NO_DISC)
 }
 
 // The bytes of a block.
+#[tactic(auto, unfolding(crate::specs::Formats::block_bytes))]
 pub fn block_bytes(number: u8) -> usize
     ensures { result ≡ block_bytes number }
 {
-    let format = format_of(number);
-    format.size as usize
+    usize::from(format_of(number).size)
 }
 
 // The bytes of a disc, 0 for none.
+#[tactic(auto, unfolding(crate::specs::Formats::disc_bytes))]
 pub fn disc_bytes(number: u8) -> usize
     ensures { result ≡ disc_bytes number }
 {
     run_bytes(number, format_of(number).blocks)
 }
 
-// The bytes of so many blocks.
+// The bytes of so many blocks; `as`, since usize is not From<u32>.
+#[tactic(auto, using(crate::proofs::Discs::run_fits), unfolding(crate::specs::Formats::run_bytes))]
 pub fn run_bytes(number: u8, blocks: u32) -> usize
     ensures { result ≡ run_bytes number blocks }
 {
@@ -135,6 +134,7 @@ pub fn run_bytes(number: u8, blocks: u32) -> usize
 }
 
 // Where a block starts: the one way from a block address to a byte place.
+#[tactic(auto, unfolding(crate::specs::Formats::place_of))]
 pub fn place_of(number: u8, block: BlockAddress) -> BytePlace
     ensures { result ≡ place_of number block }
 {
@@ -142,8 +142,9 @@ pub fn place_of(number: u8, block: BlockAddress) -> BytePlace
 }
 
 // The masks of a row; past the table nothing may be set.
+#[tactic(auto, unfolding(crate::specs::Masks::mask_row, crate::specs::Masks::masks))]
 pub fn mask_row(row: usize) -> [u8; 12]
     ensures { result ≡ mask_row row }
 {
-    if row < 17 { MASKS[row] } else { [0; 12] }
+    MASKS.get(row).copied().unwrap_or([0; 12])
 }

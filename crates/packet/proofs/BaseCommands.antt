@@ -1,22 +1,21 @@
 -- The table of base commands: each rule is one test that antt computes over all entries. Assumes nothing.
-use Rattle.std.specs.Prelude.{◌≡◌, ◌||◌}
+use Rattle.std.specs.Prelude.{◌≡◌, ◌||◌, Option, Some, None}
 use Rattle.ground.specs.Kit.{refl, Bool, true, false, not, beq, false≢true, List, ℕ, eqb}
-use Rattle.packet.specs.declared.{Rule.Rule, Routine.Routine, Values.Values, Known.Known}
+use Rattle.packet.specs.declared.{Rule.Rule, Routine.Routine, Values.Values}
 use Rattle.ground.proofs.Tables.{all, found}
 use Rattle.packet.specs.Rules.{rules, code_of, rule_of}
 use Rattle.packet.specs.declared.Routine.TheVariants.{Nothing, Motor, Answer, Read, Write, ParameterList}
 use Rattle.packet.specs.declared.Values.TheVariants.{Any, ZeroBits, Page, FormatUnit}
-use Rattle.packet.specs.declared.Known.TheVariants.{Unknown, Base}
 
 module _ (test : ℕ → Rule → Bool) where
-  abbrev pub of_known : ℕ → Known → Bool
-  of_known code Unknown = true
-  of_known code (Base rule) = test code rule
+  abbrev pub of_known : ℕ → Option Rule → Bool
+  of_known code None = true
+  of_known code (Some rule) = test code rule
 
   -- a test that every entry passes holds of every base command
-  pub of_base : all (λ e. of_known e.key e.item) rules ≡ true → (p : List ℕ) (rule : Rule) → rule_of p ≡ Base rule → test (code_of p) rule ≡ true
+  pub of_base : all (λ e. of_known e.key e.item) rules ≡ true → (p : List ℕ) (rule : Rule) → rule_of p ≡ Some rule → test (code_of p) rule ≡ true
   unfolding rule_of
-  of_base e p rule known = rw known at (found of_known Unknown (code_of p) refl rules e)
+  of_base e p rule known = rw known at (found of_known None (code_of p) refl rules e)
 
 abbrev pub opens_b : Routine → Bool
 opens_b Nothing = false
@@ -57,7 +56,7 @@ pub record Guarded (rule : Rule) : Type 0 where
   pub list_fields : (not (lists_b rule.routine) || formats_b rule.values) ≡ true
   pub list_unprotected : (not (lists_b rule.routine) || rule.asked.unprotected) ≡ true
 
-pub guarded : (p : List ℕ) (rule : Rule) → rule_of p ≡ Base rule → Guarded rule
+pub guarded : (p : List ℕ) (rule : Rule) → rule_of p ≡ Some rule → Guarded rule
 unfolding rules
 guarded p rule known =
     record {
@@ -77,7 +76,7 @@ same false true e = absurd (false≢true e)
 
 -- a check that the entries ask of these codes and of no others
 exactly : (asks : Rule → Bool) (codes : ℕ → Bool) → all (λ e. of_known (λ code rule. beq (asks rule) (codes code)) e.key e.item) rules ≡ true
-    → (p : List ℕ) (rule : Rule) → rule_of p ≡ Base rule → asks rule ≡ codes (code_of p)
+    → (p : List ℕ) (rule : Rule) → rule_of p ≡ Some rule → asks rule ≡ codes (code_of p)
 exactly asks codes e p rule known =
     same (asks rule) (codes (code_of p)) (of_base (λ code rule. beq (asks rule) (codes code)) e p rule known)
 
@@ -85,11 +84,11 @@ exactly asks codes e p rule known =
 abbrev pub free_b : ℕ → Bool
 free_b code = eqb code 0x03 || eqb code 0x12
 
-pub attended : (p : List ℕ) (rule : Rule) → rule_of p ≡ Base rule → rule.asked.attention ≡ not (free_b (code_of p))
+pub attended : (p : List ℕ) (rule : Rule) → rule_of p ≡ Some rule → rule.asked.attention ≡ not (free_b (code_of p))
 unfolding rules
 attended = exactly (λ rule. rule.asked.attention) (λ code. not (free_b code)) refl
 
 -- check B is asked of all but 12
-pub unit_asked : (p : List ℕ) (rule : Rule) → rule_of p ≡ Base rule → rule.asked.unit ≡ not (eqb (code_of p) 0x12)
+pub unit_asked : (p : List ℕ) (rule : Rule) → rule_of p ≡ Some rule → rule.asked.unit ≡ not (eqb (code_of p) 0x12)
 unfolding rules
 unit_asked = exactly (λ rule. rule.asked.unit) (λ code. not (eqb code 0x12)) refl

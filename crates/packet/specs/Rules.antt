@@ -1,14 +1,13 @@
 -- The base commands: by operation code the row of the masks, the check set, and what is done.
-use Rattle.std.specs.Prelude.{◌∷◌}
+use Rattle.std.specs.Prelude.{◌∷◌, Option, Some, None}
 use Rattle.ground.specs.Kit.{Bool, true, false, List, [], ℕ}
-use Rattle.packet.specs.declared.{Asked.Asked, Values.Values, Field.Field, Routine.Routine, Known.Known}
+use Rattle.packet.specs.declared.{Asked.Asked, Values.Values, Field.Field, Rule.Rule, Routine.Routine}
 use Rattle.ground.specs.Bytes.{byte_at}
 use Rattle.ground.specs.Tables.{Entry, ◌is◌, find}
 use Rattle.packet.specs.declared.Values.TheVariants.{Any, ZeroBits, Page, FormatUnit}
 use Rattle.packet.specs.declared.Field.TheVariants.{Nowhere, Byte4, Bytes7To8, Bytes6To9}
 use Rattle.packet.specs.declared.Answering.TheVariants.{Sense, Inquiry, FormatCapacities, Capacity, Mode}
 use Rattle.packet.specs.declared.Routine.TheVariants.{Nothing, Motor, Answer, Read, Write, ParameterList}
-use Rattle.packet.specs.declared.Known.TheVariants.{Unknown, Base}
 
 -- whether B, C, D, G and H are asked
 abbrev pub asking_of : Bool → Bool → Bool → Bool → Bool → Asked
@@ -33,9 +32,9 @@ H = true
 abbrev no : Bool
 no = false
 
-abbrev pub base_of : ℕ → Asked → Values → Field → Routine → Known
+abbrev pub base_of : ℕ → Asked → Values → Field → Routine → Option Rule
 base_of row asked values length routine =
-    Base (record { row = row; asked = asked; values = values; length = length; routine = routine })
+    Some (record { row = row; asked = asked; values = values; length = length; routine = routine })
 
 -- "Base commands: 00 01 03 12 1B 1E 23 25 28 2A 2B 2E 2F 5A A8 AA (hex)."
 -- B: "for every command", replaced by Req 02: "Check B no longer applies to code 12"
@@ -43,7 +42,7 @@ base_of row asked values length routine =
 -- F: "1B has byte 4 bit 1 zero; 1E has byte 4 bit 0 zero; 5A has page .."; H: "2A, 2E, AA"
 -- "G applies to 28, 2A, 2E, 2F, A8, AA; for 2B the length counts as 0."
 -- Req 03: "Add code 04"; "Check F asks for ..; protection is check H"
-unfoldable pub rules : List (Entry Known)
+unfoldable pub rules : List (Entry (Option Rule))
 rules =
     (0x00 is base_of 0 (asking_of B C D no no) Any Nowhere Nothing)
     ∷ (0x01 is base_of 1 (asking_of B C D no no) Any Nowhere Nothing)
@@ -68,5 +67,5 @@ rules =
 abbrev pub code_of : List ℕ → ℕ
 code_of p = byte_at p 0
 
-unfoldable pub rule_of : List ℕ → Known
-rule_of p = find (code_of p) rules Unknown
+unfoldable pub rule_of : List ℕ → Option Rule
+rule_of p = find (code_of p) rules None

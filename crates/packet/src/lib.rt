@@ -8,6 +8,7 @@ ghost use Rattle.packet.specs.Rules.{asking_of, base_of, rule_of};
 use disc::BlockAddress;
 use ground::{byte, long_of, word_of};
 
+// Numbers and no enum: a packet's byte 0 may be any, and the paper matches it by these names.
 pub const TEST_UNIT_READY: u8 = 0x00;
 
 pub const REZERO_UNIT: u8 = 0x01;
@@ -151,12 +152,7 @@ pub struct Rule {
     pub routine: Routine,
 }
 
-#[derive(Clone, Copy)]
-pub enum Known {
-    Unknown,
-    Base(Rule),
-}
-
+#[tactic(auto, unfolding(crate::specs::Fields::address_of))]
 pub fn address(packet: &[u8]) -> BlockAddress
     ensures { result ≡ address_of packet.now }
 {
@@ -168,12 +164,13 @@ pub fn address(packet: &[u8]) -> BlockAddress
     ))
 }
 
+#[tactic(auto, unfolding(crate::specs::Fields::length_of))]
 pub fn length(field: Field, packet: &[u8]) -> u32
     ensures { result ≡ length_of field packet.now }
 {
     match field {
         Field::Nowhere => 0,
-        Field::Byte4 => byte(packet, 4) as u32,
+        Field::Byte4 => u32::from(byte(packet, 4)),
         Field::Bytes7To8 => word_of(byte(packet, 7), byte(packet, 8)),
         Field::Bytes6To9 => long_of(
             byte(packet, 6),
@@ -188,32 +185,32 @@ fn asking(unit: bool, attention: bool, disc: bool, range: bool, unprotected: boo
     ensures { result ≡ asking_of unit attention disc range unprotected }
 {
     Asked {
-        unit: unit,
-        attention: attention,
-        disc: disc,
-        range: range,
-        unprotected: unprotected,
+        unit,
+        attention,
+        disc,
+        range,
+        unprotected,
     }
 }
 
-fn base(row: usize, asked: Asked, values: Values, length: Field, routine: Routine) -> Known
+fn base(row: usize, asked: Asked, values: Values, length: Field, routine: Routine) -> Option<Rule>
     ensures { result ≡ base_of row asked values length routine }
 {
-    Known::Base(Rule {
-        row: row,
-        asked: asked,
-        values: values,
-        length: length,
-        routine: routine,
+    Some(Rule {
+        row,
+        asked,
+        values,
+        length,
+        routine,
     })
 }
 
 // Check A, and each base command's row, check set and routine.
-pub fn rule_of(packet: &[u8]) -> Known
+#[tactic(auto, unfolding(crate::specs::Rules::rule_of, crate::specs::Rules::rules))]
+pub fn rule_of(packet: &[u8]) -> Option<Rule>
     ensures { result ≡ rule_of packet.now }
 {
-    let code = byte(packet, 0);
-    match code {
+    match byte(packet, 0) {
         TEST_UNIT_READY => base(0, asking(B, C, D, NO, NO), ANY, NOWHERE, NOTHING),
         REZERO_UNIT => base(1, asking(B, C, D, NO, NO), ANY, NOWHERE, NOTHING),
         REQUEST_SENSE => base(2, asking(B, NO, NO, NO, NO), ANY, BYTE_4, GIVE_SENSE),
@@ -231,6 +228,6 @@ pub fn rule_of(packet: &[u8]) -> Known
         READ_12 => base(14, asking(B, C, D, G, NO), ANY, BYTES_6_9, READ),
         WRITE_12 => base(15, asking(B, C, D, G, H), ANY, BYTES_6_9, WRITE),
         FORMAT_UNIT => base(16, asking(B, C, D, NO, H), FORMAT, BYTES_7_8, TAKE_LIST),
-        _ => Known::Unknown,
+        _ => None,
     }
 }

@@ -1,2 +1,3 @@
-pub mod Opened
+pub mod Ends
 pub mod Keeping
+pub mod Opened

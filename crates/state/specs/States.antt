@@ -1,7 +1,8 @@
 -- Paper 01, "State": what the drive remembers, and what each kind of call makes of it.
-use Rattle.std.specs.Prelude.{◌&&◌}
+use Rattle.std.specs.Prelude.{◌&&◌, ◌+◌, ◌-◌}
 use Rattle.ground.specs.Kit.{Bool, true, false, cond, not, ℕ, eqb}
-use Rattle.state.specs.declared.{Sense.Sense, Media.Media, Host.Host, State.State, Transfer.Transfer}
+use Rattle.disc.specs.declared.{BytePlace.BytePlace}
+use Rattle.state.specs.declared.{Sense.Sense, Media.Media, Host.Host, AnswerAt.AnswerAt, DiscAt.DiscAt, ListAt.ListAt, State.State, Transfer.Transfer}
 use Rattle.state.specs.declared.Transfer.TheVariants.{Closed, Answer, Read, Write, ParameterList}
 use Rattle.state.specs.Senses.{no_sense, power_told, change_told, no_disc, same_b}
 
@@ -51,6 +52,20 @@ is_open_b (ParameterList p) = true
 -- "with 0 bytes it stays closed"; "length 0 passes and stays closed"; "At 0 left the transfer closes."
 abbrev pub closed_at_zero : Transfer → Transfer
 closed_at_zero t = cond (eqb (left_of t) 0) Closed t
+
+-- a place on the disc, n bytes further on
+abbrev pub onward : BytePlace → ℕ → BytePlace
+onward place n = record { 0 = place.0 + n }
+
+-- an answer, a read or a write, and a list, n bytes further on
+abbrev pub answer_after : AnswerAt → ℕ → AnswerAt
+answer_after p n = record { at = p.at + n; left = p.left - n }
+
+abbrev pub disc_after : DiscAt → ℕ → DiscAt
+disc_after p n = record { at = onward p.at n; left = p.left - n }
+
+abbrev pub list_after : ListAt → ℕ → ListAt
+list_after p n = record { track = p.track; left = p.left - n }
 
 -- "Insertion sets number, protection and the change flag, nothing else."
 unfoldable pub inserted_of : State → ℕ → Bool → State

@@ -2,13 +2,13 @@
 #![tactic(auto)]
 
 ghost use Rattle.std.specs.Prelude.{◌≡◌};
-ghost use Rattle.state.specs.Senses.{same_b, named_b};
+ghost use Rattle.state.specs.Senses.{named_b};
 ghost use Rattle.state.specs.States.{power_on, told, left_of, is_open_b, closed_at_zero, inserted_of, sense_after, ejected_of, obeyed_of, moved_of};
 
 use disc::BytePlace;
 
 // Key, additional code, qualifier.
-#[derive(Clone, Copy)]
+#[derive(Clone, Copy, PartialEq, Eq)]
 pub struct Sense(pub u8, pub u8, pub u8);
 
 pub const NO_SENSE: Sense = Sense(0x00, 0x00, 0x00);
@@ -33,7 +33,7 @@ pub const PROTECTED: Sense = Sense(0x07, 0x27, 0x00);
 
 pub const BAD_LIST: Sense = Sense(0x05, 0x26, 0x00);
 
-// The disc that is in, 0 for none, and its protection.
+// The number of the disc that is in, 0 for none as the paper has it, and its protection.
 #[derive(Clone, Copy)]
 pub struct Media {
     pub disc: u8,
@@ -94,41 +94,39 @@ pub struct State {
     pub transfer: Transfer,
 }
 
-fn same(a: Sense, b: Sense) -> bool
-    ensures { result ≡ same_b a b }
-{
-    (a.0 == b.0) & (a.1 == b.1) & (a.2 == b.2)
-}
+// The triples above.
+const NAMED: [Sense; 11] = [
+    NO_SENSE,
+    UNKNOWN_CODE,
+    OTHER_UNIT,
+    POWER_ON,
+    CHANGE,
+    NO_DISC,
+    BAD_FIELD,
+    NOT_SAVED,
+    OUT_OF_RANGE,
+    PROTECTED,
+    BAD_LIST,
+];
 
 // Whether a triple is one of those above.
+#[tactic(auto, unfolding(crate::specs::Senses::named_b))]
 pub fn named(sense: Sense) -> bool
     ensures { result ≡ named_b sense }
 {
-    same(sense, NO_SENSE)
-        | same(sense, UNKNOWN_CODE)
-        | same(sense, OTHER_UNIT)
-        | same(sense, POWER_ON)
-        | same(sense, CHANGE)
-        | same(sense, NO_DISC)
-        | same(sense, BAD_FIELD)
-        | same(sense, NOT_SAVED)
-        | same(sense, OUT_OF_RANGE)
-        | same(sense, PROTECTED)
-        | same(sense, BAD_LIST)
+    NAMED.contains(&sense)
 }
 
 pub fn power_on() -> State
     ensures { result ≡ power_on }
 {
-    let media = NO_MEDIA;
-    let sense = NO_SENSE;
     State {
-        media: media,
+        media: NO_MEDIA,
         motor: false,
         host: Host {
             power: true,
             change: false,
-            sense: sense,
+            sense: NO_SENSE,
         },
         transfer: Transfer::Closed,
     }
@@ -139,9 +137,9 @@ fn tell(host: Host, sense: Sense) -> Host
     ensures { result ≡ told host sense }
 {
     Host {
-        power: !same(sense, POWER_ON) & host.power,
-        change: !same(sense, CHANGE) & host.change,
-        sense: sense,
+        power: sense != POWER_ON && host.power,
+        change: sense != CHANGE && host.change,
+        sense,
     }
 }
 
@@ -150,10 +148,10 @@ fn left_of(transfer: Transfer) -> usize
 {
     match transfer {
         Transfer::Closed => 0,
-        Transfer::Answer(p) => p.left,
-        Transfer::Read(p) => p.left,
-        Transfer::Write(p) => p.left,
-        Transfer::ParameterList(p) => p.left,
+        Transfer::Answer(AnswerAt { left, .. })
+        | Transfer::Read(DiscAt { left, .. })
+        | Transfer::Write(DiscAt { left, .. })
+        | Transfer::ParameterList(ListAt { left, .. }) => left,
     }
 }
 
@@ -161,35 +159,34 @@ fn closed_at_zero(transfer: Transfer) -> Transfer
     ensures { result ≡ closed_at_zero transfer }
 {
     if left_of(transfer) == 0 {
-        return Transfer::Closed;
+        Transfer::Closed
+    } else {
+        transfer
     }
-    transfer
 }
 
 // After an accepted insertion.
+#[tactic(auto, unfolding(crate::specs::States::inserted_of))]
 pub fn inserted(state: State, number: u8, protected: bool) -> State
     ensures { result ≡ inserted_of state number protected }
 {
-    let media = Media {
-        disc: number,
-        protected: protected,
-    };
-    let mut next = state;
-    next.media = media;
-    next.host.change = true;
-    next
+    State {
+        media: Media {
+            disc: number,
+            protected,
+        },
+        host: Host {
+            change: true,
+            ..state.host
+        },
+        ..state
+    }
 }
 
 fn is_open(transfer: Transfer) -> bool
     ensures { result ≡ is_open_b transfer }
 {
-    match transfer {
-        Transfer::Closed => false,
-        Transfer::Answer(_) => true,
-        Transfer::Read(_) => true,
-        Transfer::Write(_) => true,
-        Transfer::ParameterList(_) => true,
-    }
+    !matches!(transfer, Transfer::Closed)
 }
 
 // The sense after an ejection: a transfer that it breaks off, of any kind, leaves 'no disc'.
@@ -200,46 +197,42 @@ fn sense_after(sense: Sense, transfer: Transfer) -> Sense
 }
 
 // After an accepted ejection.
+#[tactic(auto, unfolding(crate::specs::States::ejected_of))]
 pub fn ejected(state: State) -> State
     ensures { result ≡ ejected_of state }
 {
-    let media = NO_MEDIA;
-    let mut host = state.host;
-    let sense = host.sense;
-    let transfer = state.transfer;
-    host.sense = sense_after(sense, transfer);
+    let sense = sense_after(state.host.sense, state.transfer);
     State {
-        media: media,
-        motor: state.motor,
-        host: host,
+        media: NO_MEDIA,
+        host: Host {
+            sense,
+            ..state.host
+        },
         transfer: Transfer::Closed,
+        ..state
     }
 }
 
 // After a command: the triple that it answers, its motor flag and its transfer.
+#[tactic(auto, unfolding(crate::specs::States::obeyed_of))]
 pub fn obeyed(state: State, sense: Sense, motor: bool, transfer: Transfer) -> State
     ensures { result ≡ obeyed_of state sense motor transfer }
 {
-    let media = state.media;
-    let host = state.host;
     State {
-        media: media,
-        motor: motor,
-        host: tell(host, sense),
+        motor,
+        host: tell(state.host, sense),
         transfer: closed_at_zero(transfer),
+        ..state
     }
 }
 
 // After bytes have moved: the same but for the transfer.
+#[tactic(auto, unfolding(crate::specs::States::moved_of))]
 pub fn moved(state: State, transfer: Transfer) -> State
     ensures { result ≡ moved_of state transfer }
 {
-    let media = state.media;
-    let host = state.host;
     State {
-        media: media,
-        motor: state.motor,
-        host: host,
         transfer: closed_at_zero(transfer),
+        ..state
     }
 }

@@ -1,24 +1,20 @@
 use Rattle.std.specs.Prelude.{◌≡◌}
-use Rattle.ground.specs.Kit.{sym, true, arith, ne_eqb}
-use Rattle.checks.specs.Verdicts.{bits_b, below_b, in_mask_b}
-use Rattle.checks.proofs.Below.{one_fails}
+use Rattle.ground.specs.Kit.{◌∙◌, arith, rules, length}
+use Rattle.std.specs.List.{list_all, zip}
+use Rattle.std.proofs.lemmas.Iterator.{YieldsList-from_slice, YieldsList-from_zip}
+use Rattle.std.proofs.lemmas.Iterator.Search.{all_from_yields_List}
+use borrow.Author.Tests.{tests}
+use Rattle.checks.specs.Verdicts.{in_mask_b}
+use Rattle.checks.proofs.Below.{pair_b, pairs}
 use Rattle.checks.proofs.in_mask.Goals as goal
-
-pub returns-then-b-masks : goal.returns-then-b-masks
-unfolding in_mask_b
-returns-then-b-masks c =
-    let at-loop = c in
-    let masks = at-loop.mask_row-masks in
-    let x = at-loop.args in
-    rw (← masks.ensures)
-    (sym
-    (one_fails (bits_b x.packet.now masks.result) 12 at-loop.loop-i.i (omega arith)
-    (rw (← c.byte-b.ensures) (ne_eqb _ _ c.if-b-masks.true))))
 
 pub returns : goal.returns
 unfolding in_mask_b
 returns c =
-    let masks = c.mask_row-masks in
-    let e : c.loop-i.i ≡ 12 = omega arith in
-    let all : below_b (bits_b c.args.packet.now masks.result) 12 ≡ true = rw e at c.loop-i.invariant.1 in
-    rw (← masks.ensures, all)
+    let masks = c.mask_row.result in
+    let p = c.args.packet.now in
+    let long : length masks ≡ 12 = omega arith in
+    let all : c.all.result ≡ list_all pair_b (zip masks p) =
+    all_from_yields_List pair_b c.all.new.self _ _ c.all.ensures.ran (YieldsList-from_zip (YieldsList-from_slice masks cc) (YieldsList-from_slice p cc)) (λ x b q k. search (rules, tests)) in
+    let e = all ∙ pairs masks p in
+    rw (long, c.mask_row.ensures) at e
