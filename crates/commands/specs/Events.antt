@@ -1,9 +1,10 @@
 -- Paper 01, "House refusals": insertion and ejection. Each touches the state alone.
+use Rattle.std.specs.Prelude.{Result, Ok, Err}
 use Rattle.ground.specs.Kit.{Bool, cond, ℕ, eqb}
 use Rattle.state.specs.declared.{State.State}
-use Rattle.commands.specs.declared.{EventReply.EventReply}
 use Rattle.state.specs.States.{inserted_of, ejected_of}
-use Rattle.house.specs.Refusals.{number_of, first_refusal, insert_tests, eject_tests}
+use Rattle.house.specs.declared.{Refusal.Refusal}
+use Rattle.house.specs.Refusals.{refusal_number, first_refusal, insert_tests, eject_tests}
 
 -- the paper's house number, and the state after
 pub record Event : Type 0 where
@@ -13,9 +14,10 @@ pub record Event : Type 0 where
 abbrev pub event : ℕ → State → Event
 event house s = record { house = house; state = s }
 
--- a reply by its number
-abbrev pub happened : EventReply → Event
-happened r = event (number_of r.house) r.state
+-- a reply by its number: a refusal leaves the state before
+abbrev pub happened : State → Result State Refusal → Event
+happened s (Ok next) = event 0 next
+happened s (Err r) = event (refusal_number r) s
 
 -- "Each returns its number .. and leaves state .. as they were."
 abbrev pub event_of : ℕ → State → State → Event

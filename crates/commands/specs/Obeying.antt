@@ -1,11 +1,10 @@
 -- Paper 01, "A command": what a packet makes of the state and of what was lent.
-use Rattle.std.specs.Prelude.{◌%◌}
+use Rattle.std.specs.Prelude.{◌%◌, Result, Ok, Err}
 use Rattle.ground.specs.Kit.{Bool, true, false, List, [], ℕ, eqb}
 use Rattle.disc.specs.declared.{BlockAddress.BlockAddress}
 use Rattle.state.specs.declared.{DiscAt.DiscAt, Transfer.Transfer}
 use Rattle.packet.specs.declared.{Rule.Rule, Routine.Routine}
-use Rattle.checks.specs.declared.{Verdict.Verdict}
-use Rattle.commands.specs.declared.{CommandReply.CommandReply}
+use Rattle.commands.specs.declared.{Obeyed.Obeyed}
 use Rattle.ground.specs.Bytes.{byte_at}
 use Rattle.ground.specs.Filling.{Filled}
 use Rattle.disc.specs.Formats.{place_of, run_bytes}
@@ -14,11 +13,11 @@ use Rattle.state.specs.Senses.{no_sense}
 use Rattle.state.specs.declared.Transfer.TheVariants.{Closed, Answer as AnswerFrom, Read as ReadFrom, Write as WriteTo, ParameterList as ListFor}
 use Rattle.packet.specs.Fields.{address_of, length_of}
 use Rattle.packet.specs.declared.Routine.TheVariants.{Nothing, Motor, Answer, Read, Write, ParameterList}
-use Rattle.checks.specs.Verdicts.{verdict}
-use Rattle.checks.specs.declared.Verdict.TheVariants.{Passes, Fails}
+use Rattle.checks.specs.Verdicts.{Verdict, verdict}
 use Rattle.answer.specs.Giving.{give_of}
 use Rattle.house.specs.World.{World, in_state, in_buffer, Reply, reply, unless_refused}
-use Rattle.house.specs.Refusals.{number_of, command_house}
+use Rattle.house.specs.declared.{Refusal.Refusal}
+use Rattle.house.specs.Refusals.{replied, command_house}
 
 -- the bytes of so many blocks from an address
 unfoldable pub span_of : ℕ → BlockAddress → ℕ → DiscAt
@@ -49,15 +48,15 @@ routine_of ParameterList w p n = passing w w.state.motor (ListFor (record { trac
 unfoldable pub performed_of : Rule → World → List ℕ → World
 performed_of rule w p = routine_of rule.routine w p (length_of rule.length p)
 
--- a reply by its number, with what is lent afterwards
-abbrev pub commanded : CommandReply → World → Reply
-commanded r w = reply (number_of r.house) r.passed 0 [] (in_state w r.state)
+-- a reply, where what is lent afterwards has the state before
+abbrev pub commanded : Result Obeyed Refusal → World → Reply
+commanded r w = replied (λ o. reply 0 o.passed 0 [] (in_state w o.state)) r w []
 
 -- "A packet past tests 1 to 4 first closes any open transfer": what a command leaves open is its own; one that fails leaves block
 -- buffer and disc
 abbrev pub reply_to : Verdict → World → List ℕ → Reply
-reply_to (Fails sense) w p = reply 0 false 0 [] (in_state w (obeyed_of w.state sense w.state.motor Closed))
-reply_to (Passes rule) w p = reply 0 true 0 [] (performed_of rule w p)
+reply_to (Err sense) w p = reply 0 false 0 [] (in_state w (obeyed_of w.state sense w.state.motor Closed))
+reply_to (Ok rule) w p = reply 0 true 0 [] (performed_of rule w p)
 
 unfoldable pub command_of : World → List ℕ → Reply
 command_of w p = unless_refused (command_house w p) w [] (reply_to (verdict w.state.media w.state.host p) w p)

@@ -1,11 +1,10 @@
 -- A packet that is alike to a passing READ or WRITE but for address and length passes too, where its blocks are among the other's.
 -- Assumes nothing.
-use Rattle.std.specs.Prelude.{◌≡◌, ◌&&◌, ◌||◌, ◌+◌, ◌≤◌, ◌<◌, ◌%◌}
+use Rattle.std.specs.Prelude.{◌≡◌, ◌&&◌, ◌||◌, ◌+◌, ◌≤◌, ◌<◌, ◌%◌, Some, Ok, Err}
 use Rattle.ground.specs.Kit.{refl, ◌∙◌, Bool, true, false, not, false≢true, List, ℕ, arith, eq-eqb, eqb-true, le-ltb, lt-leb, bit_and, and_mask, eqb, leb, ltb, length}
 use Rattle.disc.specs.declared.{BlockAddress.BlockAddress}
 use Rattle.state.specs.declared.{Media.Media, Host.Host}
 use Rattle.packet.specs.declared.{Field.Field, Values.Values, Rule.Rule}
-use Rattle.checks.specs.declared.{Verdict.Verdict}
 use Rattle.ground.specs.Bytes.{byte_at}
 use Rattle.ground.proofs.Tables.{all}
 use Rattle.disc.specs.Formats.{format_of}
@@ -15,10 +14,8 @@ use Rattle.packet.specs.Fields.{address_of, length_of}
 use Rattle.packet.specs.Rules.{rules, rule_of}
 use Rattle.packet.specs.declared.Field.TheVariants.{Nowhere, Byte4, Bytes7To8, Bytes6To9}
 use Rattle.packet.specs.declared.Values.TheVariants.{Any, ZeroBits, Page, FormatUnit}
-use Rattle.packet.specs.declared.Known.TheVariants.{Base}
 use Rattle.packet.proofs.BaseCommands.{of_known, of_base, opens_b}
-use Rattle.checks.specs.Verdicts.{bits_b, below_b, in_mask_b, checks_of, verdict}
-use Rattle.checks.specs.declared.Verdict.TheVariants.{Passes, Fails}
+use Rattle.checks.specs.Verdicts.{bits_b, below_b, in_mask_b, checks_of, Verdict, verdict}
 use Rattle.checks.proofs.Below.{below_at}
 use Rattle.checks.proofs.Passing.{passed, in_range}
 use Rattle.house.specs.World.{World, Reply}
@@ -57,7 +54,7 @@ free_b field row i = not (set_b field i) || eqb (byte_at (mask_row row) i) 0xff
 
 -- what the test of all entries says of one that opens blocks
 opening : (test : Rule → Bool) → all (λ e. of_known (λ code rule. not (opens_b rule.routine) || test rule) e.key e.item) rules ≡ true
-    → (p : List ℕ) (rule : Rule) → rule_of p ≡ Base rule → opens_b rule.routine ≡ true → test rule ≡ true
+    → (p : List ℕ) (rule : Rule) → rule_of p ≡ Some rule → opens_b rule.routine ≡ true → test rule ≡ true
 opening test e p rule known opens = rw opens at (of_base (λ code rule. not (opens_b rule.routine) || test rule) e p rule known)
 
 -- what holds of each that does
@@ -67,7 +64,7 @@ record Plain (rule : Rule) : Type 0 where
   range : rule.asked.range ≡ true
   free : below_b (free_b rule.length rule.row) 12 ≡ true
 
-plain : (p : List ℕ) (rule : Rule) → rule_of p ≡ Base rule → opens_b rule.routine ≡ true → Plain rule
+plain : (p : List ℕ) (rule : Rule) → rule_of p ≡ Some rule → opens_b rule.routine ≡ true → Plain rule
 unfolding rules masks mask_row
 plain p rule known opens =
     record {
@@ -121,7 +118,7 @@ same Bytes6To9 p from n e h k = record { long = refl; rule = refl; unit = refl; 
 -- a passing packet of n blocks from a block on, all on the disc
 pub record Says (m : Media) (h : Host) (rule : Rule) (p : List ℕ) (from n : ℕ) : Type 0 where
   pub long : length p ≡ 12
-  pub passes : verdict m h p ≡ Passes rule
+  pub passes : verdict m h p ≡ Ok rule
   pub address : (address_of p).0 ≡ from
   pub blocks : length_of rule.length p ≡ n
   pub within : from + n ≤ (format_of m.disc).blocks
@@ -169,7 +166,7 @@ module _ (m : Media) (h : Host) (rule : Rule) (p : List ℕ) (opens : opens_b ru
       }
 
 -- a command that passed has passed the checks
-pub passed_says : (w : World) (p : List ℕ) (rule : Rule) → rule_of p ≡ Base rule → opens_b rule.routine ≡ true → (call_of w (Command p)).heard.passed ≡ true
+pub passed_says : (w : World) (p : List ℕ) (rule : Rule) → rule_of p ≡ Some rule → opens_b rule.routine ≡ true → (call_of w (Command p)).heard.passed ≡ true
     → Says w.state.media w.state.host rule p (address_of p).0 (length_of rule.length p)
 passed_says w p rule known opens =
     by_call w (Command p) (λ (a : Reply). a.heard.passed ≡ true → Said) (λ _ e. absurd (false≢true e))
@@ -179,8 +176,8 @@ passed_says w p rule known opens =
     Said = Says w.state.media w.state.host rule p (address_of p).0 (length_of rule.length p)
 
     here : length p ≡ 12 → (v : Verdict) → verdict w.state.media w.state.host p ≡ v → (reply_to v w p).heard.passed ≡ true → Said
-    here long (Fails sense) q e = absurd (false≢true e)
-    here long (Passes own) q e =
+    here long (Err sense) q e = absurd (false≢true e)
+    here long (Ok own) q e =
         let all = passed w.state.media w.state.host p own q in
         let is : own ≡ rule = let k = all.known in cc in
         record { long = long; passes = rw is at q; address = refl; blocks = refl; within = in_range (rw is at all) opens }

@@ -1,17 +1,15 @@
 -- While a change is pending and unannounced, nothing but INQUIRY and REQUEST SENSE passes. Assumes nothing.
-use Rattle.std.specs.Prelude.{◌≡◌, ◌∷◌}
+use Rattle.std.specs.Prelude.{◌≡◌, ◌∷◌, Ok, Err}
 use Rattle.ground.specs.Kit.{refl, sym, ◌∙◌, Bool, true, false, not, and-true, true≢false, false≢true, List, [], ℕ, not-false}
 use Rattle.state.specs.declared.{Media.Media, Host.Host}
 use Rattle.packet.specs.declared.{Rule.Rule}
-use Rattle.checks.specs.declared.{Verdict.Verdict}
 use Rattle.ground.proofs.Truth.{neither}
 use Rattle.state.specs.Senses.{change_told, same_b}
 use Rattle.state.specs.States.{inserted_of, ejected_of, obeyed_of}
 use Rattle.sound.specs.Soundness.{sound_b}
 use Rattle.packet.specs.Rules.{code_of}
 use Rattle.packet.proofs.BaseCommands.{free_b, attended}
-use Rattle.checks.specs.Verdicts.{verdict}
-use Rattle.checks.specs.declared.Verdict.TheVariants.{Passes, Fails}
+use Rattle.checks.specs.Verdicts.{Verdict, verdict}
 use Rattle.checks.proofs.Passing.{passed}
 use Rattle.house.specs.World.{World, Reply}
 use Rattle.house.proofs.Houses.{insert_admits}
@@ -27,7 +25,7 @@ use Rattle.demands.specs.Faithful.{answers_b, some_answers_b, Announces}
 use Rattle.demands.proofs.AsOurs.{AsOurs}
 
 -- C bars every command that it is asked of
-free : (m : Media) (h : Host) (p : List ℕ) (rule : Rule) → h.change ≡ true → verdict m h p ≡ Passes rule → free_b (code_of p) ≡ true
+free : (m : Media) (h : Host) (p : List ℕ) (rule : Rule) → h.change ≡ true → verdict m h p ≡ Ok rule → free_b (code_of p) ≡ true
 free m h p rule on e =
     let all = passed m h p rule e in
     not-false (free_b (code_of p)) (sym (and-true (not (free_b (code_of p)))) ∙ (rw (on, attended p rule all.known) at all.change))
@@ -39,12 +37,12 @@ module _ (w : World) (on : Changed w) where
   -- a command that fails, but not with 06 28 00, or that passes leaves the change pending
   after_verdict : (p : List ℕ) (v : Verdict) → answers_b (Command p) (reply_to v w p).heard ≡ false → Changed (reply_to v w p).world
   unfolding obeyed_of
-  after_verdict p (Fails sense) e = here (same_b sense change_told) refl
+  after_verdict p (Err sense) e = here (same_b sense change_told) refl
     where
-      here : (b : Bool) → same_b sense change_told ≡ b → Changed (reply_to (Fails sense) w p).world
+      here : (b : Bool) → same_b sense change_told ≡ b → Changed (reply_to (Err sense) w p).world
       here true q = absurd (true≢false (let z : true ≡ false = cc in z))
       here false q = rw (q, on)
-  after_verdict p (Passes rule) e = (replied_untold w p (Passes rule) refl).change ∙ on
+  after_verdict p (Ok rule) e = (replied_untold w p (Ok rule) refl).change ∙ on
 
   after_accepted : (c : Call) → answers_b c (accepted_of w c).heard ≡ false → Changed (accepted_of w c).world
   unfolding inserted_of ejected_of
@@ -65,8 +63,8 @@ module _ (w : World) (on : Changed w) where
       (λ _ e. here (verdict w.state.media w.state.host p) refl e)
     where
       here : (v : Verdict) → verdict w.state.media w.state.host p ≡ v → (reply_to v w p).heard.passed ≡ true → free_b (code_of p) ≡ true
-      here (Fails sense) q e = absurd (false≢true e)
-      here (Passes rule) q e = free w.state.media w.state.host p rule on q
+      here (Err sense) q e = absurd (false≢true e)
+      here (Ok rule) q e = free w.state.media w.state.host p rule on q
 
 -- any run that doesn't answer it, of a device that is heard as ours
 module _ {d : Device} (o : AsOurs d) where

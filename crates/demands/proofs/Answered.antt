@@ -1,10 +1,8 @@
 -- Demand 1 of our drive. Assumes nothing.
-use Rattle.std.specs.Prelude.{◌≡◌}
+use Rattle.std.specs.Prelude.{◌≡◌, Ok, Err}
 use Rattle.ground.specs.Kit.{refl, sym, ◌∙◌, true, false, true≢false, false≢true, List, ℕ}
-use Rattle.checks.specs.declared.{Verdict.Verdict}
 use Rattle.state.specs.States.{obeyed_of}
-use Rattle.checks.specs.declared.Verdict.TheVariants.{Passes, Fails}
-use Rattle.checks.specs.Verdicts.{verdict}
+use Rattle.checks.specs.Verdicts.{Verdict, verdict}
 use Rattle.house.specs.World.{World, in_buffer}
 use Rattle.commands.specs.Obeying.{reply_to}
 use Rattle.drive.specs.Calls.{Call, Insert, Eject, Command, Feed, Pull, house_of, call_of}
@@ -24,8 +22,8 @@ unfolding obeyed_of
 failed w p none e = rw (judged_by w p none) (here (verdict w.state.media w.state.host p) refl (rw (judged_by w p none) at e))
   where
     here : (v : Verdict) → verdict w.state.media w.state.host p ≡ v → (reply_to v w p).heard.passed ≡ false → Failed w p (reply_to v w p)
-    here (Passes rule) q f = absurd (true≢false f)
-    here (Fails sense) q f = record { sets = rw q; heard = refl; closes = refl; disc = refl; buffer = refl }
+    here (Ok rule) q f = absurd (true≢false f)
+    here (Err sense) q f = record { sets = rw q; heard = refl; closes = refl; disc = refl; buffer = refl }
 
 events : (w v : World) (c : Call) → event_b c ≡ true → house_of w c ≡ 0 → w.state ≡ v.state
     → call_of w c ≡ record { heard = (call_of v c).heard; world = in_buffer (call_of v c).world w.buffer }

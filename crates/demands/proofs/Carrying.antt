@@ -1,5 +1,5 @@
 -- A READ or WRITE that is carried through, whole or cut into consecutive commands, moves the same bytes. Assumes nothing.
-use Rattle.std.specs.Prelude.{◌≡◌, ◌&&◌, ◌||◌, ◌∷◌, ◌++◌, ◌+◌, ◌-◌, ◌≤◌}
+use Rattle.std.specs.Prelude.{◌≡◌, ◌&&◌, ◌||◌, ◌∷◌, ◌++◌, ◌+◌, ◌-◌, ◌≤◌, Some}
 use Rattle.ground.specs.Kit.{refl, sym, ap, subst, ◌∙◌, true, not, false≢true, List, [], append-nil, flatten, ℕ, min, add-zero, zero-mul, arith, length, take, drop, length-drop, length-append, take-append-drop, length-take-le, take_at, drop-length}
 use Rattle.disc.specs.declared.{BlockAddress.BlockAddress}
 use Rattle.state.specs.declared.{State.State}
@@ -11,7 +11,6 @@ use Rattle.state.specs.States.{obeyed_of, moved_of}
 use Rattle.state.specs.declared.Transfer.TheVariants.{Closed}
 use Rattle.packet.specs.Fields.{address_of, length_of}
 use Rattle.packet.specs.Rules.{code_of, rules, rule_of}
-use Rattle.packet.specs.declared.Known.TheVariants.{Base}
 use Rattle.packet.specs.declared.Routine.TheVariants.{Nothing, Motor, Answer, Read, Write, ParameterList}
 use Rattle.packet.proofs.BaseCommands.{of_base, opens_b, writes_b}
 use Rattle.checks.specs.Verdicts.{checks_of, verdict}
@@ -62,7 +61,7 @@ record Carrying : Type 0 where
   goes_on : (s : State) (b : List ℕ) (at left : ℕ) → kind.next s b at left ≡ moved_of s (kind.transfer at left)
   commands : (w : World) (q : List ℕ) → Ready w → device.call w (Command q) ≡ call_of w (Command q)
   opens : opens_b routine ≡ true
-  by_code : (p : List ℕ) (rule : Rule) → rule_of p ≡ Base rule → is_in (code_of p) codes ≡ true → rule.routine ≡ routine
+  by_code : (p : List ℕ) (rule : Rule) → rule_of p ≡ Some rule → is_in (code_of p) codes ≡ true → rule.routine ≡ routine
   performs :
       (w : World) (p : List ℕ) (n : ℕ)
       → let number = w.state.media.disc in
@@ -179,7 +178,7 @@ abbrev carried_as : World → Bytes → Carried
 carried_as w m = carried true m.out (settled w m)
 
 -- a packet says the same then
-says_settled : (w : World) (b : Bytes) (rule : Rule) (p : List ℕ) → rule_of p ≡ Base rule → (from n : ℕ)
+says_settled : (w : World) (b : Bytes) (rule : Rule) (p : List ℕ) → rule_of p ≡ Some rule → (from n : ℕ)
     → Says w.state.media w.state.host rule p from n → Says w.state.media (settled w b).state.host rule p from n
 unfolding verdict checks_of obeyed_of
 says_settled w b rule p known from n says =
@@ -292,7 +291,7 @@ module _ (c : Carrying) where
       subst (λ (y : Carried). Ready y.world) (sym (as_commanded w q pieces r)) after
 
   module _ (d : Device) (Kept : List (List ℕ) → Type 0) (as-ours : Same c.way c.device d Kept)
-      (rule : Rule) (performs : rule.routine ≡ c.routine) (p : List ℕ) (known : rule_of p ≡ Base rule) (a l : ℕ) where
+      (rule : Rule) (performs : rule.routine ≡ c.routine) (p : List ℕ) (known : rule_of p ≡ Some rule) (a l : ℕ) where
     -- p says so, in this world
     abbrev Here : World → Type 0
     Here w = Ready w × Says w.state.media w.state.host rule p a l

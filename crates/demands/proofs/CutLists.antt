@@ -3,11 +3,10 @@ use Rattle.std.specs.Prelude.{◌≡◌, ◌∷◌, ◌+◌, ◌-◌}
 use Rattle.ground.specs.Kit.{refl, sym, ap, subst, ◌∙◌, Bool, true, false, List, [], ℕ, suc, min, sub-zero, arith, eqb, eqb-true, eqb-false, eq-eqb, ne_eqb, length, take, sets}
 use Rattle.state.specs.declared.{State.State, ListAt.ListAt}
 use Rattle.state.specs.declared.Transfer.TheVariants.{Closed, ParameterList}
-use Rattle.state.specs.States.{list_bytes, obeyed_of, moved_of}
+use Rattle.state.specs.States.{list_bytes, obeyed_of, moved_of, list_after}
 use Rattle.house.specs.World.{World, in_state, in_buffer}
 use Rattle.house.specs.Theorems.{Ready}
 use Rattle.sound.proofs.Opened.{Lists}
-use Rattle.moves.specs.Replies.{list_after}
 use Rattle.moves.proofs.Spans.{may_list}
 use Rattle.feeds.specs.Feeding.{list_gathers, list_goes}
 use Rattle.feeds.proofs.ByTransfer.{by_list, feeds, feeds_list}

@@ -1,15 +1,13 @@
 -- What the ledger foretells of a call is what is heard of it. Assumes nothing.
-use Rattle.std.specs.Prelude.{◌≡◌, ◌||◌, ◌+◌}
+use Rattle.std.specs.Prelude.{◌≡◌, ◌||◌, ◌+◌, Ok, Err}
 use Rattle.ground.specs.Kit.{refl, sym, ap, ◌∙◌, Bool, true, false, cond, not, List, [], ℕ, arith, eqb-true, eqb-false, eq-eqb, ne_eqb, eqb, length}
 use Rattle.state.specs.declared.{Sense.Sense, Media.Media, Transfer.Transfer}
-use Rattle.checks.specs.declared.{Verdict.Verdict}
 use Rattle.state.specs.Senses.{no_disc}
 use Rattle.state.specs.States.{left_of, sense_after, inserted_of, ejected_of, obeyed_of}
 use Rattle.sound.specs.Soundness.{open_sound_b, sound_b}
 use Rattle.sound.proofs.Keeping.{parts}
 use Rattle.sound.proofs.Opened.{open_left}
-use Rattle.checks.specs.declared.Verdict.TheVariants.{Passes, Fails}
-use Rattle.checks.specs.Verdicts.{verdict}
+use Rattle.checks.specs.Verdicts.{Verdict, verdict}
 use Rattle.house.specs.World.{World, in_state, Heard, heard, Reply}
 use Rattle.house.proofs.Houses.{admits}
 use Rattle.commands.specs.Obeying.{reply_to}
@@ -55,8 +53,8 @@ module _ (l : Ledger) (w : World) (c : Call) where
 -- a command's verdict and triple
 pub by_verdict : (w : World) (p : List ℕ) (v : Verdict) → (reply_to v w p).heard ≡ heard 0 (judged_of v).passed (judged_of v).sense 0 []
 unfolding obeyed_of
-by_verdict w p (Fails sense) = refl
-by_verdict w p (Passes rule) = rw (performed_sense w p rule)
+by_verdict w p (Err sense) = refl
+by_verdict w p (Ok rule) = rw (performed_sense w p rule)
 
 -- an ejection tells whether anything was left
 broken_off_lem : (m : Media) (sense : Sense) (t : Transfer) → open_sound_b m t ≡ true → sense_after sense t ≡ cond (eqb (left_of t) 0) sense no_disc

@@ -7,13 +7,12 @@ use Rattle.disc.specs.Formats.{block_bytes}
 use Rattle.disc.proofs.Discs.{block_fits}
 use Rattle.state.specs.declared.Transfer.TheVariants.{Closed, Answer, Read, Write, ParameterList}
 use Rattle.state.specs.Senses.{no_sense}
-use Rattle.state.specs.States.{media_of, host_of, state_of, power_on, closed_at_zero, moved_of}
+use Rattle.state.specs.States.{media_of, host_of, state_of, power_on, closed_at_zero, moved_of, disc_after}
 use Rattle.state.proofs.Closing.{by_left}
 use Rattle.sound.specs.Soundness.{sound_b}
 use Rattle.house.specs.World.{World, in_state, in_buffer, some_world, Reply, reply, refusal}
 use Rattle.house.specs.Refusals.{eject_tests}
 use Rattle.house.specs.Theorems.{Ready}
-use Rattle.moves.specs.Replies.{disc_after}
 use Rattle.feeds.specs.Feeding.{write_fed, feed_by}
 use Rattle.pulls.specs.Pulling.{gives}
 use Rattle.drive.specs.Calls.{Call, Insert, Eject, Command, Feed, Pull, returned, house_of, call_of}

@@ -6,14 +6,13 @@ use Rattle.disc.specs.Formats.{format_of, block_bytes, run_bytes, disc_bytes}
 use Rattle.disc.proofs.Discs.{block_holds}
 use Rattle.state.specs.declared.Transfer.TheVariants.{Closed, ParameterList}
 use Rattle.state.specs.Senses.{bad_list}
-use Rattle.state.specs.States.{host_of, list_bytes, obeyed_of, moved_of}
+use Rattle.state.specs.States.{host_of, list_bytes, obeyed_of, moved_of, list_after}
 use Rattle.sound.proofs.Keeping.{parts}
 use Rattle.sound.proofs.Opened.{Lists}
 use Rattle.house.specs.World.{World, in_state, in_disc}
 use Rattle.house.specs.Theorems.{Ready}
 use Rattle.lists.specs.Lists.{bad_list_b, meant_of, formatted}
 use Rattle.lists.proofs.Formatting.{judged_by_twelve, meant_by_twelve}
-use Rattle.moves.specs.Replies.{list_after}
 use Rattle.moves.proofs.Spans.{may_list}
 use Rattle.feeds.specs.Feeding.{list_gathers, list_goes}
 use Rattle.feeds.proofs.ByTransfer.{by_list}

@@ -4,12 +4,12 @@ use Rattle.ground.specs.Kit.{refl, sym, ap, subst, ◌∙◌, true, false, List,
 use Rattle.state.specs.declared.{Media.Media, Host.Host, AnswerAt.AnswerAt, DiscAt.DiscAt, ListAt.ListAt, Transfer.Transfer}
 use Rattle.disc.specs.Formats.{block_bytes}
 use Rattle.state.specs.declared.Transfer.TheVariants.{Closed, Answer, Read, Write, ParameterList}
-use Rattle.state.specs.States.{left_of, moved_of}
+use Rattle.state.specs.States.{left_of, moved_of, answer_after, disc_after}
 use Rattle.sound.specs.Soundness.{open_sound_b}
 use Rattle.sound.proofs.Opened.{lists}
 use Rattle.house.specs.World.{World, Reply, reply, heard}
 use Rattle.house.specs.Theorems.{Ready}
-use Rattle.moves.specs.Replies.{idle, answer_after, disc_after}
+use Rattle.moves.specs.Replies.{idle}
 use Rattle.moves.proofs.Spans.{open_sound, may_answer, may_read, may_write}
 use Rattle.feeds.specs.Feeding.{Writing, writing, feed_bytes, written, takes, write_fed, list_fed}
 use Rattle.feeds.proofs.Feeding.{feed_at}

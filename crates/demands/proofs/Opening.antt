@@ -1,9 +1,8 @@
 -- What a command opens is what the ledger takes and gives from then on. Assumes nothing.
-use Rattle.std.specs.Prelude.{◌≡◌, ◌+◌, ◌*◌, ◌/◌, ◌%◌, ◌≤◌}
+use Rattle.std.specs.Prelude.{◌≡◌, ◌+◌, ◌*◌, ◌/◌, ◌%◌, ◌≤◌, Ok, Err}
 use Rattle.ground.specs.Kit.{refl, sym, ap, subst, ◌∙◌, Bool, true, false, cond, List, [], flatten, ℕ, min, add-zero, arith, leb-true, leb-false, eqb, leb, lit≤, length, take, drop, length-drop, length-take-le, set, take_all, take_at}
 use Rattle.state.specs.declared.{Media.Media, ListAt.ListAt, Transfer.Transfer}
 use Rattle.packet.specs.declared.{Rule.Rule, Answering.Answering, Routine.Routine}
-use Rattle.checks.specs.declared.{Verdict.Verdict}
 use Rattle.ground.specs.Bytes.{byte_at}
 use Rattle.disc.specs.Formats.{block_bytes, run_bytes, place_of, buffer_bytes}
 use Rattle.disc.proofs.Discs.{block_fits, block_holds, run_within}
@@ -16,8 +15,7 @@ use Rattle.packet.specs.Fields.{address_of, length_of}
 use Rattle.packet.specs.declared.Answering.TheVariants.{Sense, Inquiry, FormatCapacities, Capacity, Mode}
 use Rattle.packet.specs.declared.Routine.TheVariants.{Nothing, Motor, Answer, Read, Write, ParameterList}
 use Rattle.packet.proofs.BaseCommands.{opens_b}
-use Rattle.checks.specs.Verdicts.{verdict}
-use Rattle.checks.specs.declared.Verdict.TheVariants.{Passes, Fails}
+use Rattle.checks.specs.Verdicts.{Verdict, verdict}
 use Rattle.checks.proofs.Passing.{Passed, passed, disc_in, in_range}
 use Rattle.answer.specs.Answers.{sense_data, inquiry_data, capacity_data, with_disc_data, without_disc_data, capacities_data, mode_data}
 use Rattle.answer.specs.Giving.{answer_of, allocation_of, give_of}
@@ -179,7 +177,7 @@ module _ (w : World) (l : Ledger) (a : Agrees w l) where
 -- ---- any command
 
 module _ (w : World) (l : Ledger) (a : Agrees w l) (ready : Ready w) (p : List ℕ) where
-  module _ (rule : Rule) (e : verdict w.state.media w.state.host p ≡ Passes rule) where
+  module _ (rule : Rule) (e : verdict w.state.media w.state.host p ≡ Ok rule) where
     all : Passed w.state.media w.state.host p rule
     all = passed w.state.media w.state.host p rule e
 
@@ -194,8 +192,8 @@ module _ (w : World) (l : Ledger) (a : Agrees w l) (ready : Ready w) (p : List �
 
   by_verdict : (v : Verdict) → verdict w.state.media w.state.host p ≡ v → Agrees (reply_to v w p).world (noted l (Command p) (reply_to v w p).heard)
   unfolding noted obeyed_of
-  by_verdict (Fails sense) e = record { media = a.media; host = rw a.host; disc = a.disc; opened = shut _ _ _ _ }
-  by_verdict (Passes rule) e =
+  by_verdict (Err sense) e = record { media = a.media; host = rw a.host; disc = a.disc; opened = shut _ _ _ _ }
+  by_verdict (Ok rule) e =
       rw (all rule e).known (subst (λ (sense : state.Sense). Agrees (performed_of rule w p) (noting rule e sense)) (sym (performed_sense w p rule)) (performs rule e))
 
   pub agrees_commanded : Agrees (accepted_of w (Command p)).world (noted l (Command p) (accepted_of w (Command p)).heard)

@@ -1,14 +1,12 @@
 -- Demand 1: "Any packet, state, event and lent buffer is answered. No entry relies on a check made by its caller."
-use Rattle.std.specs.Prelude.{◌≡◌}
+use Rattle.std.specs.Prelude.{◌≡◌, Ok, Err}
 use Rattle.ground.specs.Kit.{Bool, true, false, List, ℕ}
 use Rattle.state.specs.declared.{Sense.Sense}
-use Rattle.checks.specs.declared.{Verdict.Verdict}
 use Rattle.state.specs.declared.Transfer.TheVariants.{Closed}
 use Rattle.state.specs.Senses.{no_sense}
 use Rattle.state.specs.States.{power_on}
 use Rattle.sound.specs.Soundness.{sound_b}
-use Rattle.checks.specs.declared.Verdict.TheVariants.{Passes, Fails}
-use Rattle.checks.specs.Verdicts.{verdict}
+use Rattle.checks.specs.Verdicts.{Verdict, verdict}
 use Rattle.house.specs.World.{World, in_buffer, Reply, refusal}
 use Rattle.house.specs.Theorems.{Ready}
 use Rattle.drive.specs.Calls.{Call, Insert, Eject, Command, Feed, Pull, returned, house_of}
@@ -20,8 +18,8 @@ pub record Judged : Type 0 where
   pub sense : Sense
 
 abbrev pub judged_of : Verdict → Judged
-judged_of (Passes rule) = record { passed = true; sense = no_sense }
-judged_of (Fails sense) = record { passed = false; sense = sense }
+judged_of (Ok rule) = record { passed = true; sense = no_sense }
+judged_of (Err sense) = record { passed = false; sense = sense }
 
 -- "a failed command sets its sense triple, closes the open transfer and changes neither disc nor block buffer"
 pub record Failed (w : World) (p : List ℕ) (a : Reply) : Type 0 where

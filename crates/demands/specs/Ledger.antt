@@ -1,9 +1,9 @@
 -- The ledger: an account that is blank at power-on, or read off a drive once, and from then on kept from the calls and from what was heard.
-use Rattle.std.specs.Prelude.{◌&&◌, ◌||◌, ◌∷◌, ◌++◌, ◌+◌, ◌*◌, ◌-◌, ◌/◌, ◌%◌}
+use Rattle.std.specs.Prelude.{◌&&◌, ◌||◌, ◌∷◌, ◌++◌, ◌+◌, ◌*◌, ◌-◌, ◌/◌, ◌%◌, Option, Some, None}
 use Rattle.ground.specs.Kit.{Bool, true, false, cond, not, List, [], flatten, ℕ, zero, suc, eqb, length, take, drop, replicate, set}
 use Rattle.disc.specs.declared.{BlockAddress.BlockAddress}
 use Rattle.state.specs.declared.{Sense.Sense, Media.Media, Host.Host, State.State, Transfer.Transfer}
-use Rattle.packet.specs.declared.{Known.Known, Routine.Routine}
+use Rattle.packet.specs.declared.{Rule.Rule, Routine.Routine}
 use Rattle.ground.specs.Bytes.{byte_at}
 use Rattle.disc.specs.Formats.{format_of, block_bytes, run_bytes}
 use Rattle.state.specs.declared.Transfer.TheVariants.{Closed, Answer as AnswerFrom, Read as ReadFrom, Write as WriteTo, ParameterList as ListFor}
@@ -11,7 +11,6 @@ use Rattle.state.specs.Senses.{triple, no_sense, same_b}
 use Rattle.state.specs.States.{media_of, host_of, state_of, no_media}
 use Rattle.packet.specs.Fields.{address_of, length_of}
 use Rattle.packet.specs.Rules.{rule_of}
-use Rattle.packet.specs.declared.Known.TheVariants.{Unknown, Base}
 use Rattle.packet.specs.declared.Routine.TheVariants.{Nothing, Motor, Answer, Read, Write, ParameterList}
 use Rattle.answer.specs.Giving.{answer_of, allocation_of}
 use Rattle.house.specs.World.{World, Heard}
@@ -157,9 +156,9 @@ opened Read l h p n = ledger l.media h l.stored 0 (flatten (take n (drop (addres
 opened Write l h p n = ledger l.media h (store l.stored.blocks (address_of p) []) (run_bytes l.media.disc n) []
 opened ParameterList l h p n = listed l.media h l.stored (byte_at p 2) []
 
-abbrev pub passes : Known → Ledger → Host → List ℕ → Ledger
-passes Unknown l h p = ledger l.media h l.stored 0 []
-passes (Base rule) l h p = opened rule.routine l h p (length_of rule.length p)
+abbrev pub passes : Option Rule → Ledger → Host → List ℕ → Ledger
+passes None l h p = ledger l.media h l.stored 0 []
+passes (Some rule) l h p = opened rule.routine l h p (length_of rule.length p)
 
 -- bytes that a write took, and bytes that a list took: with its twelfth it is judged
 abbrev pub fed_to : Listing → Ledger → List ℕ → Ledger

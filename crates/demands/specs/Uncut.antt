@@ -2,7 +2,7 @@
 -- between, gives the same counts in sum, bytes, disc, block buffer and state. A READ or WRITE of at least one block that passes and is
 -- carried through may be cut into consecutive commands of its own code, alike but for address and length, of one or more blocks, each
 -- carried through with no event between: all pass, with the same bytes, disc, block buffer and end state."
-use Rattle.std.specs.Prelude.{◌≡◌, ◌&&◌, ◌||◌, ◌∷◌, ◌++◌, ◌+◌, ◌≤◌}
+use Rattle.std.specs.Prelude.{◌≡◌, ◌&&◌, ◌||◌, ◌∷◌, ◌++◌, ◌+◌, ◌≤◌, Some}
 use Rattle.ground.specs.Kit.{Bool, true, false, List, [], flatten, ℕ, eqb, length, take}
 use Rattle.disc.specs.declared.{BlockAddress.BlockAddress}
 use Rattle.packet.specs.declared.{Field.Field, Rule.Rule}
@@ -10,7 +10,6 @@ use Rattle.disc.specs.Formats.{run_bytes}
 use Rattle.packet.specs.Fields.{address_of, length_of}
 use Rattle.packet.specs.Rules.{code_of, rule_of}
 use Rattle.packet.specs.declared.Field.TheVariants.{Nowhere, Byte4, Bytes7To8, Bytes6To9}
-use Rattle.packet.specs.declared.Known.TheVariants.{Base}
 use Rattle.ground.specs.Bytes.{byte_at, be2, be4}
 use Rattle.house.specs.World.{World}
 use Rattle.house.specs.Theorems.{Ready}
@@ -117,7 +116,7 @@ data_in number (x ∷ xs) = data_of number x.blocks x.pieces ++ data_in number x
 pub record Cut (codes : List ℕ) (d : Device) (w : World) (p : List ℕ) (rule : Rule) (pieces : List (List ℕ)) (parts : List Part) : Type 0 where
   pub ready : Ready w
   pub code : is_in (code_of p) codes ≡ true
-  pub known : rule_of p ≡ Base rule
+  pub known : rule_of p ≡ Some rule
   pub passes : (d.call w (Command p)).heard.passed ≡ true
   pub some : 1 ≤ length_of rule.length p
   pub through : Through w.state.media.disc (length_of rule.length p) pieces

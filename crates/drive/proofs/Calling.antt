@@ -1,12 +1,10 @@
 -- Every call is refused by its house number, or accepted; what a proof has to show of it. Assumes nothing.
-use Rattle.std.specs.Prelude.{◌≡◌}
+use Rattle.std.specs.Prelude.{◌≡◌, Ok, Err}
 use Rattle.ground.specs.Kit.{refl, sym, ◌∙◌, Bool, true, false, cond, List, [], ℕ, eqb, length}
 use Rattle.state.specs.declared.{State.State}
-use Rattle.checks.specs.declared.{Verdict.Verdict}
 use Rattle.state.specs.States.{inserted_of, ejected_of}
 use Rattle.sound.specs.Soundness.{sound_b}
-use Rattle.checks.specs.Verdicts.{verdict}
-use Rattle.checks.specs.declared.Verdict.TheVariants.{Passes, Fails}
+use Rattle.checks.specs.Verdicts.{Verdict, verdict}
 use Rattle.house.specs.World.{World, in_state, in_disc, Reply, reply, refusal, unless_refused}
 use Rattle.house.specs.Refusals.{insert_tests, eject_tests, move_tests, command_tests}
 use Rattle.house.proofs.Houses.{by_house}
@@ -58,8 +56,8 @@ module _ (w : World) where
 
   -- an accepted call has number 0
   judged_none : (p : List ℕ) (v : Verdict) → (reply_to v w p).heard.house ≡ 0
-  judged_none p (Fails sense) = refl
-  judged_none p (Passes rule) = refl
+  judged_none p (Err sense) = refl
+  judged_none p (Ok rule) = refl
 
   accepted_none : (c : Call) → (accepted_of w c).heard.house ≡ 0
   accepted_none (Insert number prot disc) = refl

@@ -1,10 +1,9 @@
 -- What a command leaves: a sound state, what is lent as long as it was, and the flags but for the one that it reports. Assumes nothing.
-use Rattle.std.specs.Prelude.{◌≡◌, ◌||◌, ◌+◌, ◌%◌, ◌≤◌, ◌<◌}
+use Rattle.std.specs.Prelude.{◌≡◌, ◌||◌, ◌+◌, ◌%◌, ◌≤◌, ◌<◌, Ok, Err}
 use Rattle.ground.specs.Kit.{refl, sym, Bool, true, false, List, ℕ, lit≤, add-mul, mul-mod_left, mul-zero, arith, not-true, eqb, length}
 use Rattle.disc.specs.declared.{BlockAddress.BlockAddress}
 use Rattle.state.specs.declared.{AnswerAt.AnswerAt, ListAt.ListAt, Transfer.Transfer}
 use Rattle.packet.specs.declared.{Rule.Rule, Routine.Routine}
-use Rattle.checks.specs.declared.{Verdict.Verdict}
 use Rattle.ground.specs.Bytes.{byte_at}
 use Rattle.ground.proofs.Truth.{neither}
 use Rattle.disc.specs.Formats.{buffer_bytes, format_of, block_bytes, run_bytes, place_of}
@@ -18,8 +17,7 @@ use Rattle.sound.proofs.Keeping.{obeyed_sound}
 use Rattle.packet.specs.Fields.{address_of, length_of}
 use Rattle.packet.specs.declared.Routine.TheVariants.{Nothing, Motor, Answer, Read, Write, ParameterList}
 use Rattle.packet.proofs.BaseCommands.{opens_b, writes_b, lists_b}
-use Rattle.checks.specs.Verdicts.{verdict}
-use Rattle.checks.specs.declared.Verdict.TheVariants.{Passes, Fails}
+use Rattle.checks.specs.Verdicts.{Verdict, verdict}
 use Rattle.checks.proofs.Passing.{passed, gives_named, gives_told, disc_in, in_range, bare, list_in, on_track, list_bare}
 use Rattle.answer.specs.Giving.{give_of}
 use Rattle.answer.proofs.Given.{give_count, give_length}
@@ -87,9 +85,9 @@ module _ (w : World) (p : List ℕ) (sound : sound_b w.state ≡ true) (room : l
 
   pub replied_sound : (v : Verdict) → verdict w.state.media w.state.host p ≡ v → sound_b (reply_to v w p).world.state ≡ true
   unfolding performed_of open_sound_b
-  replied_sound (Fails sense) e =
+  replied_sound (Err sense) e =
       obeyed_sound w.state sound Closed (λ _. refl) sense w.state.motor (gives_named w.state.media w.state.host p sense e)
-  replied_sound (Passes rule) e =
+  replied_sound (Ok rule) e =
       let all = passed w.state.media w.state.host p rule e in
       routine_sound (length_of rule.length p) rule.routine (λ opens. disc_in all opens) (λ opens. in_range all opens) (λ writes. bare all writes)
       (λ lists. (list_in all lists, on_track all lists, list_bare all lists))
@@ -109,8 +107,8 @@ pub record Untold (w v : World) : Type 0 where
 
 -- a triple that reports an attention
 abbrev pub reports_b : Verdict → Bool
-reports_b (Fails sense) = same_b sense power_told || same_b sense change_told
-reports_b (Passes rule) = false
+reports_b (Err sense) = same_b sense power_told || same_b sense change_told
+reports_b (Ok rule) = false
 
 module _ (w : World) (p : List ℕ) where
   routine_keeps : (n : ℕ) (r : Routine) → Keeps w (routine_of r w p n) × Untold w (routine_of r w p n)
@@ -139,23 +137,23 @@ module _ (w : World) (p : List ℕ) where
 
   pub replied_keeps : (v : Verdict) → Keeps w (reply_to v w p).world
   unfolding obeyed_of performed_of
-  replied_keeps (Fails sense) = record { media = refl; buffer = refl; disc = refl }
-  replied_keeps (Passes rule) = (routine_keeps (length_of rule.length p) rule.routine).0
+  replied_keeps (Err sense) = record { media = refl; buffer = refl; disc = refl }
+  replied_keeps (Ok rule) = (routine_keeps (length_of rule.length p) rule.routine).0
 
   pub replied_untold : (v : Verdict) → reports_b v ≡ false → Untold w (reply_to v w p).world
   unfolding obeyed_of performed_of
-  replied_untold (Fails sense) e =
+  replied_untold (Err sense) e =
       let (power, change) = neither (same_b sense power_told) (same_b sense change_told) e in
       record { power = rw power; change = rw change }
-  replied_untold (Passes rule) e = (routine_keeps (length_of rule.length p) rule.routine).1
+  replied_untold (Ok rule) e = (routine_keeps (length_of rule.length p) rule.routine).1
 
 -- ---- whether it passed
 
 told_passed : (w : World) (p : List ℕ) (v : Verdict) → verdict w.state.media w.state.host p ≡ v
     → (reply_to v w p).heard.passed ≡ same_b (reply_to v w p).world.state.host.sense no_sense
 unfolding obeyed_of
-told_passed w p (Fails sense) e = sym (not-true (same_b sense no_sense) (gives_told w.state.media w.state.host p sense e))
-told_passed w p (Passes rule) e = rw (performed_sense w p rule)
+told_passed w p (Err sense) e = sym (not-true (same_b sense no_sense) (gives_told w.state.media w.state.host p sense e))
+told_passed w p (Ok rule) e = rw (performed_sense w p rule)
 
 pub passed_by_triple : PassedByTriple
 passed_by_triple w p none = rw (accepted w (Command p) none) (told_passed w p (verdict w.state.media w.state.host p) refl)

@@ -1,9 +1,8 @@
 -- FORMAT UNIT passes with the packet of a track that is on the disc, and with no other. Assumes nothing.
-use Rattle.std.specs.Prelude.{◌≡◌, ◌||◌, ◌/◌, ◌%◌, ◌<◌}
+use Rattle.std.specs.Prelude.{◌≡◌, ◌||◌, ◌/◌, ◌%◌, ◌<◌, Some, Ok, Err}
 use Rattle.ground.specs.Kit.{refl, sym, ap, ◌∙◌, Bool, true, false, cond, false≢true, not, List, ℕ, arith, bit_and, and_mask, lit≤, lt-ltb, lt-leb, leb-false, eq-eqb, ne_eqb, eqb-true, eqb-false, not-false, eqb, leb, length}
 use Rattle.state.specs.declared.{Media.Media, Host.Host}
 use Rattle.packet.specs.declared.{Rule.Rule}
-use Rattle.checks.specs.declared.{Verdict.Verdict}
 use Rattle.ground.specs.Bytes.{byte_at, word}
 use Rattle.ground.proofs.Truth.{neither}
 use Rattle.disc.specs.Formats.{format_of}
@@ -17,9 +16,7 @@ use Rattle.packet.specs.Rules.{asking_of, rules, code_of, rule_of}
 use Rattle.packet.specs.declared.Values.TheVariants.{FormatUnit}
 use Rattle.packet.specs.declared.Field.TheVariants.{Bytes7To8}
 use Rattle.packet.specs.declared.Routine.TheVariants.{ParameterList}
-use Rattle.packet.specs.declared.Known.TheVariants.{Base}
-use Rattle.checks.specs.Verdicts.{bits_b, in_mask_b, bad_format_b, checks_of, verdict}
-use Rattle.checks.specs.declared.Verdict.TheVariants.{Passes, Fails}
+use Rattle.checks.specs.Verdicts.{bits_b, in_mask_b, bad_format_b, checks_of, Verdict, verdict}
 use Rattle.checks.proofs.Below.{below_at}
 use Rattle.checks.proofs.Passing.{Passed, passed}
 use Rattle.house.specs.World.{World, in_state, Reply}
@@ -34,7 +31,7 @@ use Rattle.drive.proofs.TwelveBytes.{twelve}
 abbrev format : Rule
 format = record { row = 16; asked = asking_of true true true false true; values = FormatUnit; length = Bytes7To8; routine = ParameterList }
 
-known : (p : List ℕ) → code_of p ≡ 0x04 → rule_of p ≡ Base format
+known : (p : List ℕ) → code_of p ≡ 0x04 → rule_of p ≡ Some format
 unfolding rules rule_of
 known p code = rw code
 
@@ -95,7 +92,7 @@ module _ (w : World) (p : List ℕ) where
   -- nothing is pending, and a disc is in
   module _ (power : h.power ≡ false) (change : h.change ≡ false) (is_in_lem : m.disc ≡ 0 → ⊥) where
     -- the packet of a track passes or fails by check H
-    by-protection : (t : ℕ) → t < (format_of m.disc).cylinders → verdict m h (format_packet t) ≡ cond m.protected (Fails is_protected) (Passes format)
+    by-protection : (t : ℕ) → t < (format_of m.disc).cylinders → verdict m h (format_packet t) ≡ cond m.protected (Err is_protected) (Ok format)
     unfolding verdict rules rule_of checks_of length_of in_mask_b masks mask_row
     by-protection t on =
         rw (
@@ -108,20 +105,20 @@ module _ (w : World) (p : List ℕ) where
 
     -- any other fails at E or F
     other-fails : code_of p ≡ 0x04 → length p ≡ 12 → byte_at p 1 / 32 ≡ 0 → ((p ≡ format_packet track) × (track < (format_of m.disc).cylinders) → ⊥)
-        → verdict m h p ≡ Fails bad_field
+        → verdict m h p ≡ Err bad_field
     unfolding verdict checks_of
     other-fails code long unit other = here (in_mask_b p 16) refl (bad_format_b m.disc p) refl
       where
-        here : (b : Bool) → in_mask_b p 16 ≡ b → (c : Bool) → bad_format_b m.disc p ≡ c → verdict m h p ≡ Fails bad_field
+        here : (b : Bool) → in_mask_b p 16 ≡ b → (c : Bool) → bad_format_b m.disc p ≡ c → verdict m h p ≡ Err bad_field
         here false q c f = rw (known p code, unit, power, change, ne_eqb m.disc 0 is_in_lem, q)
         here true q true f = rw (known p code, unit, power, change, ne_eqb m.disc 0 is_in_lem, q, f)
         here true q false f = absurd (other (exact code long unit q f))
 
-  passes : p ≡ format_packet track → Formattable w.state track → verdict m h p ≡ Passes format
+  passes : p ≡ format_packet track → Formattable w.state track → verdict m h p ≡ Ok format
   passes e f = ap (verdict m h) e ∙ by-protection f.power f.change f.is_in_lem track f.on ∙ rw f.bare
 
   -- one that passed has passed by that rule
-  own_rule : code_of p ≡ 0x04 → (rule : Rule) → verdict m h p ≡ Passes rule → Passed m h p format
+  own_rule : code_of p ≡ 0x04 → (rule : Rule) → verdict m h p ≡ Ok rule → Passed m h p format
   own_rule code rule e =
       let c = passed m h p rule e in
       let same : rule ≡ format = let k = c.known in let f = known p code in cc in
@@ -134,8 +131,8 @@ format_passes w p code none =
   where
     here : length p ≡ 12 → (v : Verdict) → verdict w.state.media w.state.host p ≡ v → (reply_to v w p).heard.passed ≡ true
         → (p ≡ format_packet (byte_at p 2)) × Formattable w.state (byte_at p 2)
-    here long (Fails sense) q e = absurd (false≢true e)
-    here long (Passes rule) q e = has_passed w p code long (own_rule w p code rule q)
+    here long (Err sense) q e = absurd (false≢true e)
+    here long (Ok rule) q e = has_passed w p code long (own_rule w p code rule q)
 
 pub format_fails : FormatFails
 unfolding obeyed_of
@@ -144,7 +141,7 @@ format_fails w p code none low power change is_in_lem =
     let unit : byte_at p 1 / 32 ≡ 0 = omega (arith, low) in (
       λ other. rw (accepted w (Command p) none, other-fails w p power change is_in_lem code long unit other) (refl, refl),
       λ e on prot.
-          let at-h : verdict w.state.media w.state.host p ≡ Fails is_protected =
+          let at-h : verdict w.state.media w.state.host p ≡ Err is_protected =
           ap (verdict w.state.media w.state.host) e ∙ by-protection w p power change is_in_lem (byte_at p 2) on ∙ rw prot in
           rw (accepted w (Command p) none, at-h) (refl, refl),
     )
@@ -160,8 +157,8 @@ format_opens w p code = by_call w (Command p) Opens (λ _ e. absurd (false≢tru
         → a.world ≡ in_state w (state_of s.media s.motor (host_of s.host.power s.host.change no_sense) (ListFor (record { track = byte_at p 2; left = 12 })))
 
     here : (v : Verdict) → verdict w.state.media w.state.host p ≡ v → Opens (reply_to v w p)
-    here (Fails sense) q e = absurd (false≢true e)
-    here (Passes rule) q e =
+    here (Err sense) q e = absurd (false≢true e)
+    here (Ok rule) q e =
         let c = passed w.state.media w.state.host p rule q in
         let same : rule ≡ format = let k = c.known in let f = known p code in cc in
         rw same

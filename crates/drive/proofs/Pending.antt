@@ -1,17 +1,14 @@
 -- While a change is pending, the second command that C is asked of reports it at the latest. Assumes nothing.
-use Rattle.std.specs.Prelude.{◌≡◌, ◌&&◌, ◌∷◌, ◌≤◌}
+use Rattle.std.specs.Prelude.{◌≡◌, ◌&&◌, ◌∷◌, ◌≤◌, Option, Some, None, Err, is_some}
 use Rattle.ground.specs.Kit.{refl, sym, ◌∙◌, Bool, true, false, cond, not, or-true, and-true, true≢false, false≢true, List, [], ℕ, suc, arith, eqb-true, not-true, eqb, lit≤, length}
 use Rattle.state.specs.declared.{Sense.Sense, Media.Media, Host.Host}
-use Rattle.packet.specs.declared.{Rule.Rule, Known.Known}
-use Rattle.checks.specs.declared.{Check.Check}
+use Rattle.packet.specs.declared.{Rule.Rule}
 use Rattle.ground.proofs.Truth.{both, neither}
 use Rattle.state.specs.Senses.{power_told, change_told}
 use Rattle.state.specs.States.{inserted_of, ejected_of, obeyed_of}
 use Rattle.packet.specs.Rules.{code_of, rule_of}
-use Rattle.packet.specs.declared.Known.TheVariants.{Unknown, Base}
 use Rattle.packet.proofs.BaseCommands.{free_b, attended, unit_asked}
-use Rattle.checks.specs.Verdicts.{other_unit_b, first_of, checks_of, verdict}
-use Rattle.checks.specs.declared.Verdict.TheVariants.{Fails}
+use Rattle.checks.specs.Verdicts.{other_unit_b, Check, first_of, checks_of, verdict}
 use Rattle.house.specs.World.{World}
 use Rattle.house.specs.Theorems.{Ready}
 use Rattle.house.proofs.Houses.{command_admits}
@@ -19,7 +16,7 @@ use Rattle.commands.specs.Obeying.{reply_to}
 use Rattle.feeds.proofs.ByTransfer.{fed_leaves}
 use Rattle.pulls.proofs.ByTransfer.{pulled_leaves}
 use Rattle.drive.specs.Calls.{Call, Insert, Eject, Command, Feed, Pull, house_of, call_of}
-use Rattle.drive.specs.Theorems.{base_b, attended_b, attends_b, attended_count, answers_change_b, some_reports_b, SecondAtLatest}
+use Rattle.drive.specs.Theorems.{attended_b, attends_b, attended_count, answers_change_b, some_reports_b, SecondAtLatest}
 use Rattle.drive.proofs.Calling.{accepted_of, accepted, by_call}
 use Rattle.drive.proofs.Commanded.{Untold, reports_b, replied_untold}
 use Rattle.drive.proofs.Staying.{stays}
@@ -29,20 +26,20 @@ use Rattle.drive.proofs.Staying.{stays}
 -- no check that fails does
 abbrev calm_b : List Check → Bool
 calm_b [] = true
-calm_b (c ∷ cs) = not (reports_b (Fails c.1) && c.0) && calm_b cs
+calm_b (c ∷ cs) = not (reports_b (Err c.sense) && c.fails) && calm_b cs
 
 calm : (cs : List Check) (rule : Rule) → calm_b cs ≡ true → reports_b (first_of cs rule) ≡ false
 calm [] rule e = refl
 calm (c ∷ cs) rule e =
-    let (one, more) = both (not (reports_b (Fails c.1) && c.0)) (calm_b cs) e in
-    here c.0 one (calm cs rule more)
+    let (one, more) = both (not (reports_b (Err c.sense) && c.fails)) (calm_b cs) e in
+    here c.fails one (calm cs rule more)
   where
-    here : (f : Bool) → not (reports_b (Fails c.1) && f) ≡ true → reports_b (first_of cs rule) ≡ false
-        → reports_b (cond f (Fails c.1) (first_of cs rule)) ≡ false
+    here : (f : Bool) → not (reports_b (Err c.sense) && f) ≡ true → reports_b (first_of cs rule) ≡ false
+        → reports_b (cond f (Err c.sense) (first_of cs rule)) ≡ false
     here false one more = more
-    here true one more = sym (and-true (reports_b (Fails c.1))) ∙ not-true (reports_b (Fails c.1) && true) one
+    here true one more = sym (and-true (reports_b (Err c.sense))) ∙ not-true (reports_b (Err c.sense) && true) one
 
-module _ (m : Media) (h : Host) (p : List ℕ) (rule : Rule) (known : rule_of p ≡ Base rule) where
+module _ (m : Media) (h : Host) (p : List ℕ) (rule : Rule) (known : rule_of p ≡ Some rule) where
   -- B is asked of what C is asked of
   unit_too : free_b (code_of p) ≡ false → rule.asked.unit ≡ true
   unit_too free = unit_asked p rule known ∙ rw (neither (eqb (code_of p) 0x03) (eqb (code_of p) 0x12) free).1
@@ -56,11 +53,11 @@ module _ (m : Media) (h : Host) (p : List ℕ) (rule : Rule) (known : rule_of p 
   unasked free = rw known (calm (checks_of m h rule p) rule (rw (attended p rule known, free)))
 
   module _ (unit : other_unit_b p ≡ false) (free : free_b (code_of p) ≡ false) where
-    power-first : h.power ≡ true → verdict m h p ≡ Fails power_told
+    power-first : h.power ≡ true → verdict m h p ≡ Err power_told
     unfolding verdict checks_of
     power-first on = rw (known, unit_too free, unit, attended p rule known, free, on)
 
-    change-first : h.power ≡ false → h.change ≡ true → verdict m h p ≡ Fails change_told
+    change-first : h.power ≡ false → h.change ≡ true → verdict m h p ≡ Err change_told
     unfolding verdict checks_of
     change-first off on = rw (known, unit_too free, unit, attended p rule known, free, off, on)
 
@@ -70,33 +67,33 @@ module _ (m : Media) (h : Host) (p : List ℕ) (rule : Rule) (known : rule_of p 
 record Asked (p : List ℕ) : Type 0 where
   long : length p ≡ 12
   rule : Rule
-  known : rule_of p ≡ Base rule
+  known : rule_of p ≡ Some rule
   unit : other_unit_b p ≡ false
   free : free_b (code_of p) ≡ false
 
 asked : (p : List ℕ) → attended_b p ≡ true → Asked p
 asked p e =
     let long = eqb (length p) 12 in
-    let base = base_b (rule_of p) in
+    let base = is_some (rule_of p) in
     let (lbu, free) = both (long && base && not (other_unit_b p)) (not (free_b (code_of p))) e in
     let (lb, unit) = both (long && base) (not (other_unit_b p)) lbu in
     let (l, b) = both long base lb in
     here (rule_of p) refl b (eqb-true (length p) 12 l) (not-true (other_unit_b p) unit) (not-true (free_b (code_of p)) free)
   where
-    here : (k : Known) → rule_of p ≡ k → base_b k ≡ true → length p ≡ 12 → other_unit_b p ≡ false → free_b (code_of p) ≡ false → Asked p
-    here Unknown q b l u f = absurd (false≢true b)
-    here (Base rule) q b l u f = record { long = l; rule = rule; known = q; unit = u; free = f }
+    here : (k : Option Rule) → rule_of p ≡ k → is_some k ≡ true → length p ≡ 12 → other_unit_b p ≡ false → free_b (code_of p) ≡ false → Asked p
+    here None q b l u f = absurd (false≢true b)
+    here (Some rule) q b l u f = record { long = l; rule = rule; known = q; unit = u; free = f }
 
 -- any other packet reports no attention
 other : (m : Media) (h : Host) (p : List ℕ) → length p ≡ 12 → attended_b p ≡ false → reports_b (verdict m h p) ≡ false
 unfolding verdict
 other m h p long e = here (rule_of p) refl (other_unit_b p) refl (free_b (code_of p)) refl
   where
-    here : (k : Known) → rule_of p ≡ k → (u : Bool) → other_unit_b p ≡ u → (f : Bool) → free_b (code_of p) ≡ f → reports_b (verdict m h p) ≡ false
-    here Unknown q u v f g = rw q
-    here (Base rule) q u v true g = unasked m h p rule q g
-    here (Base rule) q true v false g = other_unit_lem m h p rule q g v
-    here (Base rule) q false v false g = absurd (true≢false (sym (rw (long, q, v, g) refl) ∙ e))
+    here : (k : Option Rule) → rule_of p ≡ k → (u : Bool) → other_unit_b p ≡ u → (f : Bool) → free_b (code_of p) ≡ f → reports_b (verdict m h p) ≡ false
+    here None q u v f g = rw q
+    here (Some rule) q u v true g = unasked m h p rule q g
+    here (Some rule) q true v false g = other_unit_lem m h p rule q g v
+    here (Some rule) q false v false g = absurd (true≢false (sym (rw (long, q, v, g) refl) ∙ e))
 
 -- a call that isn't such a command leaves the power-on flag as it is, and the change pending
 record Pending (w v : World) : Type 0 where
@@ -137,7 +134,7 @@ module _ (cs : List Call) (more : (v : World) → Ready v → v.state.host.chang
   unfolding obeyed_of
   at_asked p e a h = here w.state.host.power refl
     where
-      answers : (sense : Sense) → verdict w.state.media w.state.host p ≡ Fails sense → call_of w (Command p) ≡ reply_to (Fails sense) w p
+      answers : (sense : Sense) → verdict w.state.media w.state.host p ≡ Err sense → call_of w (Command p) ≡ reply_to (Err sense) w p
       answers sense f = accepted w (Command p) ((command_admits w p).1 a.long r) ∙ rw f
 
       here : (b : Bool) → w.state.host.power ≡ b → some_reports_b w (Command p ∷ cs) ≡ true

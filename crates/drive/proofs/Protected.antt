@@ -1,13 +1,11 @@
 -- A protected disc stays as it is. Assumes nothing.
-use Rattle.std.specs.Prelude.{◌≡◌}
+use Rattle.std.specs.Prelude.{◌≡◌, Ok, Err}
 use Rattle.ground.specs.Kit.{refl, sym, ◌∙◌, true, not, false≢true, List, ℕ, ap, Bool}
 use Rattle.packet.specs.declared.{Routine.Routine}
-use Rattle.checks.specs.declared.{Verdict.Verdict}
 use Rattle.state.specs.declared.Transfer.TheVariants.{Write}
 use Rattle.packet.specs.declared.Routine.TheVariants.{Nothing, Motor, Answer, Read, Write as WriteBlocks, ParameterList as TakeList}
 use Rattle.packet.specs.Fields.{length_of}
-use Rattle.checks.specs.declared.Verdict.TheVariants.{Passes, Fails}
-use Rattle.checks.specs.Verdicts.{verdict}
+use Rattle.checks.specs.Verdicts.{Verdict, verdict}
 use Rattle.sound.proofs.Opened.{writes}
 use Rattle.house.specs.World.{World}
 use Rattle.house.proofs.Houses.{admits}
@@ -30,8 +28,8 @@ routine_leaves w p n TakeList = refl
 
 replied_leaves : (w : World) (p : List ℕ) (v : Verdict) → (reply_to v w p).world.disc ≡ w.disc
 unfolding performed_of
-replied_leaves w p (Fails sense) = refl
-replied_leaves w p (Passes rule) = routine_leaves w p (length_of rule.length p) rule.routine
+replied_leaves w p (Err sense) = refl
+replied_leaves w p (Ok rule) = routine_leaves w p (length_of rule.length p) rule.routine
 
 -- what is open to be fed is open on an unprotected disc
 bare_only : (b : Bool) → b ≡ true → not b ≡ true → ⊥

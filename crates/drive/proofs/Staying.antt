@@ -4,7 +4,7 @@ use Rattle.ground.specs.Kit.{refl, ◌∙◌, true, List, ℕ, min, arith, lengt
 use Rattle.state.specs.declared.{AnswerAt.AnswerAt, DiscAt.DiscAt, ListAt.ListAt}
 use Rattle.disc.specs.Formats.{format_of, block_bytes, run_bytes, disc_bytes}
 use Rattle.disc.proofs.Discs.{block_fits, block_holds}
-use Rattle.state.specs.States.{list_bytes, inserted_of, ejected_of, obeyed_of, moved_of}
+use Rattle.state.specs.States.{list_bytes, inserted_of, ejected_of, obeyed_of, moved_of, answer_after, disc_after, list_after}
 use Rattle.state.specs.Senses.{bad_list, named_b}
 use Rattle.state.specs.declared.Transfer.TheVariants.{Closed, Answer, Read, Write, ParameterList}
 use Rattle.sound.specs.Soundness.{open_sound_b, sound_b}
@@ -15,7 +15,6 @@ use Rattle.house.specs.World.{World}
 use Rattle.house.specs.Theorems.{Ready}
 use Rattle.house.proofs.Houses.{ready_in, insert_admits, command_admits, admits}
 use Rattle.lists.proofs.Formatting.{formatted_length}
-use Rattle.moves.specs.Replies.{answer_after, disc_after, list_after}
 use Rattle.moves.proofs.Spans.{open_sound, may_write}
 use Rattle.feeds.specs.Feeding.{writing, list_gathers, list_fed}
 use Rattle.feeds.proofs.Feeding.{feed_lengths}

@@ -1,9 +1,8 @@
 -- INQUIRY to whatever unit, and any other command to a unit that isn't there. Assumes nothing.
-use Rattle.std.specs.Prelude.{◌≡◌, ◌||◌, ◌∷◌, ◌++◌, ◌*◌, ◌/◌, ◌%◌, ◌<◌}
+use Rattle.std.specs.Prelude.{◌≡◌, ◌||◌, ◌∷◌, ◌++◌, ◌*◌, ◌/◌, ◌%◌, ◌<◌, Option, Some, None, Ok, Err, is_some}
 use Rattle.ground.specs.Kit.{refl, sym, ◌∙◌, Bool, true, false, cond, not, false≢true, List, ℕ, zero, suc, min, arith, bit_and, and_mask, not-true, lt-ltb, eq-eqb, ne_eqb, eqb-true, eqb-false, eqb, take, drop, set}
 use Rattle.state.specs.declared.{Media.Media, Host.Host}
-use Rattle.packet.specs.declared.{Rule.Rule, Known.Known}
-use Rattle.checks.specs.declared.{Verdict.Verdict}
+use Rattle.packet.specs.declared.{Rule.Rule}
 use Rattle.ground.specs.Bytes.{byte_at}
 use Rattle.disc.specs.Formats.{buffer_bytes}
 use Rattle.disc.specs.Masks.{masks, mask_row}
@@ -15,10 +14,8 @@ use Rattle.packet.specs.declared.Values.TheVariants.{Any}
 use Rattle.packet.specs.declared.Field.TheVariants.{Byte4}
 use Rattle.packet.specs.declared.Answering.TheVariants.{Inquiry}
 use Rattle.packet.specs.declared.Routine.TheVariants.{Answer}
-use Rattle.packet.specs.declared.Known.TheVariants.{Unknown, Base}
 use Rattle.packet.proofs.BaseCommands.{unit_asked}
-use Rattle.checks.specs.Verdicts.{bits_b, in_mask_b, checks_of, verdict}
-use Rattle.checks.specs.declared.Verdict.TheVariants.{Passes, Fails}
+use Rattle.checks.specs.Verdicts.{bits_b, in_mask_b, checks_of, Verdict, verdict}
 use Rattle.checks.proofs.Below.{one_fails, below_at}
 use Rattle.answer.specs.Answers.{inquiry_data}
 use Rattle.answer.specs.Giving.{answer_of, allocation_of, give_of}
@@ -26,7 +23,7 @@ use Rattle.house.specs.World.{World}
 use Rattle.house.proofs.Houses.{command_admits}
 use Rattle.commands.specs.Obeying.{performed_of, reply_to}
 use Rattle.drive.specs.Calls.{Command, house_of, call_of}
-use Rattle.drive.specs.Theorems.{base_b, InquiryByMask, LowBitsFail, scan_packet, ScanPasses, ToAnotherUnit, OthersFailAtB}
+use Rattle.drive.specs.Theorems.{InquiryByMask, LowBitsFail, scan_packet, ScanPasses, ToAnotherUnit, OthersFailAtB}
 use Rattle.drive.proofs.Calling.{accepted}
 
 -- the rule of 12
@@ -35,11 +32,11 @@ inquiry = record { row = 3; asked = asking_of false false false false false; val
 
 -- what holds of passing within the mask and of failing at E outside it holds of the verdict on INQUIRY
 by_mask : (m : Media) (h : Host) (p : List ℕ) → code_of p ≡ 0x12 → (P : Verdict → Type 0)
-    → (in_mask_b p 3 ≡ true → P (Passes inquiry)) → (in_mask_b p 3 ≡ false → P (Fails bad_field)) → P (verdict m h p)
+    → (in_mask_b p 3 ≡ true → P (Ok inquiry)) → (in_mask_b p 3 ≡ false → P (Err bad_field)) → P (verdict m h p)
 unfolding verdict rules rule_of checks_of
 by_mask m h p code P passes fails = rw code (here (in_mask_b p 3) refl)
   where
-    here : (b : Bool) → in_mask_b p 3 ≡ b → P (cond (not b) (Fails bad_field) (Passes inquiry))
+    here : (b : Bool) → in_mask_b p 3 ≡ b → P (cond (not b) (Err bad_field) (Ok inquiry))
     here true q = passes q
     here false q = fails q
 
@@ -82,10 +79,10 @@ module _ (unit allocation : ℕ) (low : unit < 8) (small : allocation < 256) whe
   unfolding in_mask_b masks mask_row
   in_mask = rw (unit_in, allocation_in)
 
-  scanned : (w : World) → house_of w (Command scan) ≡ 0 → call_of w (Command scan) ≡ reply_to (Passes inquiry) w scan
+  scanned : (w : World) → house_of w (Command scan) ≡ 0 → call_of w (Command scan) ≡ reply_to (Ok inquiry) w scan
   scanned w none =
       accepted w (Command scan) none
-      ∙ by_mask w.state.media w.state.host scan refl (λ v. reply_to v w scan ≡ reply_to (Passes inquiry) w scan)
+      ∙ by_mask w.state.media w.state.host scan refl (λ v. reply_to v w scan ≡ reply_to (Ok inquiry) w scan)
       (λ _. refl)
       (λ out. absurd (false≢true (sym out ∙ in_mask)))
 
@@ -119,11 +116,11 @@ to_another_unit w unit allocation other low small none =
 
 -- ---- any other command
 
-at_b : (m : Media) (h : Host) (p : List ℕ) (k : Known) → (code_of p ≡ 0x12 → ⊥) → rule_of p ≡ k → base_b k ≡ true → (byte_at p 1 / 32 ≡ 0 → ⊥)
-    → verdict m h p ≡ Fails other_unit
+at_b : (m : Media) (h : Host) (p : List ℕ) (k : Option Rule) → (code_of p ≡ 0x12 → ⊥) → rule_of p ≡ k → is_some k ≡ true → (byte_at p 1 / 32 ≡ 0 → ⊥)
+    → verdict m h p ≡ Err other_unit
 unfolding verdict checks_of
-at_b m h p Unknown other known base unit = absurd (false≢true base)
-at_b m h p (Base rule) other known base unit =
+at_b m h p None other known base unit = absurd (false≢true base)
+at_b m h p (Some rule) other known base unit =
     rw (known, unit_asked p rule known, ne_eqb (code_of p) 0x12 other, ne_eqb (byte_at p 1 / 32) 0 unit)
 
 pub others_fail_at_b : OthersFailAtB

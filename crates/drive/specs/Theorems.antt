@@ -1,27 +1,26 @@
 -- What holds of the entries; proved in proofs/Staying, OneReply, Whole, Protected, Commanded, Pending and Units. What holds of every call is stated of any
 -- device, in `demands` specs/Answered.
-use Rattle.std.specs.Prelude.{◌≡◌, ◌&&◌, ◌||◌, ◌∷◌, ◌++◌, ◌+◌, ◌*◌, ◌-◌, ◌%◌, ◌<◌, ◌≤◌}
+use Rattle.std.specs.Prelude.{◌≡◌, ◌&&◌, ◌||◌, ◌∷◌, ◌++◌, ◌+◌, ◌*◌, ◌-◌, ◌%◌, ◌<◌, ◌≤◌, Result, is_some}
 use Rattle.ground.specs.Kit.{Bool, true, false, cond, not, List, [], ℕ, suc, eqb, leb, ltb, length, take, drop, replicate, set}
 use Rattle.disc.specs.declared.{BlockAddress.BlockAddress, BytePlace.BytePlace}
 use Rattle.state.specs.declared.{State.State, DiscAt.DiscAt}
-use Rattle.packet.specs.declared.{Known.Known}
-use Rattle.commands.specs.declared.{EventReply.EventReply, CommandReply.CommandReply}
-use Rattle.moves.specs.declared.{MoveReply.MoveReply}
+use Rattle.house.specs.declared.{Refusal.Refusal}
+use Rattle.commands.specs.declared.{Obeyed.Obeyed}
+use Rattle.moves.specs.declared.{Moved.Moved}
 use Rattle.ground.specs.Bytes.{byte_at}
 use Rattle.disc.specs.Formats.{buffer_bytes, block_bytes, place_of}
 use Rattle.state.specs.declared.Transfer.TheVariants.{Write}
 use Rattle.state.specs.Senses.{triple, no_sense, change_told, same_b}
-use Rattle.state.specs.States.{power_on}
+use Rattle.state.specs.States.{power_on, onward}
 use Rattle.sound.specs.Soundness.{sound_b}
 use Rattle.packet.specs.Rules.{code_of, rule_of}
-use Rattle.packet.specs.declared.Known.TheVariants.{Unknown, Base}
 use Rattle.checks.specs.Verdicts.{other_unit_b, in_mask_b}
 use Rattle.house.specs.World.{World, in_buffer, in_lent, Heard, Reply}
 use Rattle.house.specs.Theorems.{Ready}
 use Rattle.commands.specs.Events.{Event, happened}
 use Rattle.commands.specs.Obeying.{commanded}
 use Rattle.moves.specs.Places.{Whole}
-use Rattle.moves.specs.Replies.{moved, onward}
+use Rattle.moves.specs.Replies.{moved}
 use Rattle.feeds.specs.Feeding.{Writing, writing, feed_byte, feed_bytes, feed_of}
 use Rattle.drive.specs.Calls.{Call, Insert, Eject, Command, Feed, Pull, house_of, call_of}
 
@@ -33,20 +32,20 @@ PowerOnSound = sound_b power_on ≡ true
 abbrev pub OnePowerOn : Type 0
 OnePowerOn = (r q : State) → r ≡ power_on → q ≡ power_on → r ≡ q
 
--- an insertion or an ejection
+-- an insertion or an ejection, from a state
 abbrev pub OneEvent : Type 0
-OneEvent = (e : Event) (r q : EventReply) → happened r ≡ e → happened q ≡ e → r ≡ q
+OneEvent = (e : Event) (s : State) (r q : Result State Refusal) → happened s r ≡ e → happened s q ≡ e → r ≡ q
 
 -- a command, and the block buffer
 abbrev pub OneCommand : Type 0
 OneCommand =
-    (a : Reply) (w : World) (disc : List ℕ) (r q : CommandReply) (b c : List ℕ) → commanded r (in_lent w b disc) ≡ a
+    (a : Reply) (w : World) (disc : List ℕ) (r q : Result Obeyed Refusal) (b c : List ℕ) → commanded r (in_lent w b disc) ≡ a
     → commanded q (in_lent w c disc) ≡ a → (r ≡ q) × (b ≡ c)
 
 -- a feed or a pull, the caller's buffer, the block buffer and the disc
 abbrev pub OneMove : Type 0
 OneMove =
-    (a : Reply) (w : World) (r q : MoveReply) (x y b c d e : List ℕ) → moved r x (in_lent w b d) ≡ a
+    (a : Reply) (w : World) (r q : Result Moved Refusal) (x y b c d e : List ℕ) → moved r x (in_lent w b d) ≡ a
     → moved q y (in_lent w c e) ≡ a → (r ≡ q) × (x ≡ y) × (b ≡ c) × (d ≡ e)
 
 -- ---- "Hence at any cut a block on the disc is all old or all new."
@@ -118,14 +117,10 @@ PassedByTriple = (w : World) (p : List ℕ) → house_of w (Command p) ≡ 0
 -- ---- "So while a change is pending, of the commands that pass A and B and aren't 03 or 12, the second at the latest reports a
 -- ---- change, if no event comes between."
 
-abbrev pub base_b : Known → Bool
-base_b Unknown = false
-base_b (Base rule) = true
-
 -- a packet of 12 bytes that passes A and B and isn't 03 or 12
 abbrev pub attended_b : List ℕ → Bool
 attended_b p =
-    eqb (length p) 12 && base_b (rule_of p) && not (other_unit_b p) && not (eqb (code_of p) 0x03 || eqb (code_of p) 0x12)
+    eqb (length p) 12 && is_some (rule_of p) && not (other_unit_b p) && not (eqb (code_of p) 0x03 || eqb (code_of p) 0x12)
 
 abbrev pub attends_b : Call → Bool
 attends_b (Insert number prot disc) = false
@@ -191,6 +186,6 @@ ToAnotherUnit =
 -- any other base command to another unit, so that byte 1 is 32 at the least, fails at B
 abbrev pub OthersFailAtB : Type 0
 OthersFailAtB =
-    (w : World) (p : List ℕ) → (code_of p ≡ 0x12 → ⊥) → base_b (rule_of p) ≡ true → 32 ≤ byte_at p 1 → house_of w (Command p) ≡ 0
+    (w : World) (p : List ℕ) → (code_of p ≡ 0x12 → ⊥) → is_some (rule_of p) ≡ true → 32 ≤ byte_at p 1 → house_of w (Command p) ≡ 0
     → let h = (call_of w (Command p)).heard in
     (h.passed ≡ false) × (h.sense ≡ triple 0x05 0x25 0x00)

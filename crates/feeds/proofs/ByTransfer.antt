@@ -1,16 +1,19 @@
 -- A feed by the open transfer: what a proof has to show of it. Assumes nothing.
-use Rattle.std.specs.Prelude.{◌≡◌}
+use Rattle.std.specs.Prelude.{◌≡◌, Result, IsErrAnd}
 use Rattle.ground.specs.Kit.{refl, sym, ◌∙◌, Bool, true, false, List, ℕ, min, length, take, eqb, eqb-true, eqb-false}
 use Rattle.state.specs.declared.{DiscAt.DiscAt, ListAt.ListAt, Transfer.Transfer}
 use Rattle.state.specs.declared.Transfer.TheVariants.{Closed, Answer, Read, Write, ParameterList}
 use Rattle.disc.specs.Formats.{format_of}
 use Rattle.state.specs.Senses.{bad_list}
-use Rattle.state.specs.States.{obeyed_of, moved_of}
-use Rattle.house.specs.World.{World, in_state, in_disc, Reply, reply}
+use Rattle.state.specs.States.{obeyed_of, moved_of, list_after}
+use Rattle.house.specs.declared.{Refusal.Refusal}
+use Rattle.house.specs.World.{World, in_state, in_disc, Reply, reply, unless_refused}
+use Rattle.house.specs.Refusals.{refusal_number}
 use Rattle.house.specs.Theorems.{Ready}
-use Rattle.house.proofs.Houses.{ready_in}
+use Rattle.house.proofs.Houses.{ready_in, turned_away}
 use Rattle.lists.specs.Lists.{bad_list_b, meant_of, formatted, list_judged}
-use Rattle.moves.specs.Replies.{idle, list_after}
+use Rattle.moves.specs.declared.{Moved.Moved}
+use Rattle.moves.specs.Replies.{idle, moved}
 use Rattle.moves.proofs.Leaving.{Leaves}
 use Rattle.feeds.specs.Feeding.{write_fed, list_gathers, list_goes, list_fed, takes, feed_by, feed_of}
 
@@ -87,3 +90,8 @@ unfed w piece t no_write no_list = here (feeding t)
     here (idles none same) = sym (same w piece)
     here (writes p e) = absurd (no_write p e)
     here (lists p e) = absurd (no_list p e)
+
+-- the exit of a refused feed
+pub feed_refused : (w : World) (piece : List ℕ) (house : ℕ) (accepted : Reply) (answer : Result Moved Refusal) (r : Refusal) → IsErrAnd answer (λ q. q ≡ r)
+    → refusal_number r ≡ house → moved answer piece w ≡ unless_refused house w piece accepted
+feed_refused w piece house accepted answer r is e = turned_away house w piece accepted _ answer r is e

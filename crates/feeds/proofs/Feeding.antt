@@ -2,7 +2,7 @@
 use Rattle.std.specs.Prelude.{◌≡◌, ◌∷◌, ◌++◌, ◌<◌, ◌≤◌, ◌+◌, ◌-◌, ◌*◌, ◌/◌, ◌%◌}
 use Rattle.ground.specs.Kit.{refl, sym, ap, ◌∙◌, Bool, true, false, cond, List, [], ℕ, suc, min, mod-lt, mod-eq_of_lt, div-add-mod', add-zero, mul-mod_left, add_assoc, add-mul, one-mul, arith, eq-eqb, ne_eqb, eqb-true, ltb-true, ltb-false, digits_mod, eqb, ltb, length, take, drop, set, length-set, paste, length-paste, sets, take-add, length-take-le}
 use Rattle.disc.specs.declared.{BytePlace.BytePlace}
-use Rattle.moves.specs.Replies.{onward}
+use Rattle.state.specs.States.{onward}
 use Rattle.feeds.specs.Feeding.{Writing, writing, feed_byte, feed_bytes}
 
 abbrev pub at_byte : ℕ → BytePlace

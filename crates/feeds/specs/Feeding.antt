@@ -4,13 +4,13 @@ use Rattle.ground.specs.Kit.{false, cond, List, [], ℕ, min, eqb, length, take,
 use Rattle.disc.specs.declared.{BytePlace.BytePlace}
 use Rattle.state.specs.declared.{State.State, DiscAt.DiscAt, ListAt.ListAt, Transfer.Transfer}
 use Rattle.disc.specs.Formats.{block_bytes}
-use Rattle.state.specs.States.{list_bytes, obeyed_of, moved_of}
+use Rattle.state.specs.States.{list_bytes, obeyed_of, moved_of, onward, disc_after, list_after}
 use Rattle.state.specs.Senses.{bad_list}
 use Rattle.state.specs.declared.Transfer.TheVariants.{Closed, Answer, Read, Write, ParameterList}
 use Rattle.house.specs.World.{World, in_state, in_buffer, in_disc, in_lent, Reply, reply, unless_refused}
 use Rattle.house.specs.Refusals.{move_house}
 use Rattle.lists.specs.Lists.{Judged, list_judged}
-use Rattle.moves.specs.Replies.{idle, onward, disc_after, list_after}
+use Rattle.moves.specs.Replies.{idle}
 
 -- the place of the next byte, the block buffer and the disc
 pub record Writing : Type 0 where

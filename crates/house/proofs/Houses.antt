@@ -1,23 +1,23 @@
 -- A number is one refusal's; what the house tests say of a call that they let pass, and which call they let pass. Assumes nothing.
-use Rattle.std.specs.Prelude.{◌≡◌, ◌∷◌}
+use Rattle.std.specs.Prelude.{◌≡◌, ◌∷◌, Result, Ok, Err, IsErrAnd}
+use Rattle.std.proofs.lemmas.Result.{err_from_is_err_and}
 use Rattle.ground.specs.Kit.{refl, sym, ◌∙◌, ap, Bool, true, false, cond, List, [], ℕ, arith, eq-eqb, ne_eqb, eqb-true, eqb-false, le-ltb, ltb-false, not-false, eqb, ltb, length, get_or}
 use Rattle.state.specs.declared.{State.State}
-use Rattle.house.specs.declared.{House.House}
+use Rattle.house.specs.declared.{Refusal.Refusal}
 use Rattle.disc.specs.Formats.{buffer_bytes, disc_bytes}
 use Rattle.ground.proofs.Truth.{neither}
 use Rattle.sound.specs.Soundness.{sound_b}
 use Rattle.ground.proofs.First.{NoneFails, none_failed, barred_b}
-use Rattle.house.specs.declared.House.TheVariants.{Accepted, PacketLength, Unsound, BufferLength, DiscLength, DiscIn, NoDiscIn, NoSuchDisc}
+use Rattle.house.specs.declared.Refusal.TheVariants.{PacketLength, Unsound, BufferLength, DiscLength, DiscIn, NoDiscIn, NoSuchDisc}
 use Rattle.house.specs.World.{World, Reply, refusal, unless_refused}
-use Rattle.house.specs.Refusals.{Test, number_of, fails_b, refusing, first_refusal, insert_tests, eject_tests, move_tests, command_tests, move_house, command_house}
+use Rattle.house.specs.Refusals.{Test, refusal_number, number_of, replied, fails_b, refusing, first_refusal, insert_tests, eject_tests, move_tests, command_tests, move_house, command_house}
 use Rattle.house.specs.Theorems.{OneHouse, Ready, Insertable, InsertAdmits, EjectAdmits, Admits, CommandAdmits}
 
--- the houses by number
-abbrev houses : List House
-houses = Accepted ∷ PacketLength ∷ Unsound ∷ BufferLength ∷ DiscLength ∷ DiscIn ∷ NoDiscIn ∷ NoSuchDisc ∷ []
+-- the refusals by number
+abbrev refusals : List Refusal
+refusals = PacketLength ∷ PacketLength ∷ Unsound ∷ BufferLength ∷ DiscLength ∷ DiscIn ∷ NoDiscIn ∷ NoSuchDisc ∷ []
 
-by_number : (h : House) → get_or houses (number_of h) Accepted ≡ h
-by_number Accepted = refl
+by_number : (r : Refusal) → get_or refusals (refusal_number r) PacketLength ≡ r
 by_number PacketLength = refl
 by_number Unsound = refl
 by_number BufferLength = refl
@@ -26,9 +26,28 @@ by_number DiscIn = refl
 by_number NoDiscIn = refl
 by_number NoSuchDisc = refl
 
--- a number is that of one house
+-- a number is that of one refusal
+one_refusal : (r q : Refusal) → refusal_number r ≡ refusal_number q → r ≡ q
+one_refusal r q e = sym (by_number r) ∙ ap (λ (n : ℕ). get_or refusals n PacketLength) e ∙ by_number q
+
+pub is_refusal : (r : Refusal) → refusal_number r ≡ 0 → ⊥
+is_refusal PacketLength e = cc
+is_refusal Unsound e = cc
+is_refusal BufferLength e = cc
+is_refusal DiscLength e = cc
+is_refusal DiscIn e = cc
+is_refusal NoDiscIn e = cc
+is_refusal NoSuchDisc e = cc
+
+-- replies of one number are equal if what they hold is
+pub one_reply : {T : Type 0} (r q : Result T Refusal) → number_of r ≡ number_of q → ((x y : T) → r ≡ Ok x → q ≡ Ok y → x ≡ y) → r ≡ q
+one_reply (Ok x) (Ok y) e same = ap Ok (same x y refl refl)
+one_reply (Ok x) (Err q) e same = absurd (is_refusal q (sym e))
+one_reply (Err r) (Ok y) e same = absurd (is_refusal r e)
+one_reply (Err r) (Err q) e same = ap Err (one_refusal r q e)
+
 pub one_house : OneHouse
-one_house h g e = sym (by_number h) ∙ ap (λ (n : ℕ). get_or houses n Accepted) e ∙ by_number g
+one_house h g e = one_reply h g e (λ _ _ _ _. refl)
 
 abbrev pub none_b : ℕ → Bool
 none_b house = eqb house 0
@@ -134,3 +153,11 @@ by_house P house w out accepted refused accepts = here (eqb house 0) refl
     here : (b : Bool) → eqb house 0 ≡ b → P (cond b accepted (refusal house w out))
     here true q = accepts (eqb-true house 0 q)
     here false q = refused (eqb-false house 0 q)
+
+-- ---- the exit of an entry at a refusal that a `?` passes on
+
+pub turned_away : {T : Type 0} (house : ℕ) (w : World) (out : List ℕ) (accepted : Reply) (of : T → Reply) (answer : Result T Refusal) (r : Refusal)
+    → IsErrAnd answer (λ q. q ≡ r) → refusal_number r ≡ house → replied of answer w out ≡ unless_refused house w out accepted
+turned_away house w out accepted of answer r is e =
+    let p = err_from_is_err_and answer is in
+    rw (p.1, p.2, ← e, ne_eqb (refusal_number r) 0 (is_refusal r))

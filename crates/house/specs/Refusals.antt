@@ -1,14 +1,13 @@
 -- Paper 01, "House refusals, in order of testing".
-use Rattle.std.specs.Prelude.{◌||◌, ◌∷◌}
+use Rattle.std.specs.Prelude.{◌||◌, ◌∷◌, Result, Ok, Err}
 use Rattle.ground.specs.Kit.{Bool, not, List, [], ℕ, eqb, ltb, length}
 use Rattle.state.specs.declared.{State.State}
-use Rattle.house.specs.declared.{House.House}
+use Rattle.house.specs.declared.{Refusal.Refusal}
 use Rattle.disc.specs.Formats.{buffer_bytes, disc_bytes}
 use Rattle.sound.specs.Soundness.{sound_b}
 use Rattle.ground.specs.First.{first}
-use Rattle.house.specs.World.{World}
-use Rattle.house.specs.declared.House.TheVariants.{
-  Accepted,
+use Rattle.house.specs.World.{World, Reply, refusal}
+use Rattle.house.specs.declared.Refusal.TheVariants.{
   PacketLength,
   Unsound,
   BufferLength,
@@ -18,32 +17,41 @@ use Rattle.house.specs.declared.House.TheVariants.{
   NoSuchDisc,
 }
 
--- the column "No.", 0 for none
-abbrev pub number_of : House → ℕ
-number_of Accepted = 0
-number_of PacketLength = 1
-number_of Unsound = 2
-number_of BufferLength = 3
-number_of DiscLength = 4
-number_of DiscIn = 5
-number_of NoDiscIn = 6
-number_of NoSuchDisc = 7
+-- the column "No."
+abbrev pub refusal_number : Refusal → ℕ
+refusal_number PacketLength = 1
+refusal_number Unsound = 2
+refusal_number BufferLength = 3
+refusal_number DiscLength = 4
+refusal_number DiscIn = 5
+refusal_number NoDiscIn = 6
+refusal_number NoSuchDisc = 7
+
+-- that of a reply, 0 for none
+abbrev pub number_of : {T : Type 0} → Result T Refusal → ℕ
+number_of (Ok x) = 0
+number_of (Err r) = refusal_number r
+
+-- what an entry replies: what it makes of an accepted call, or a refusal, which leaves the world and the caller's bytes
+abbrev pub replied : {T : Type 0} → (T → Reply) → Result T Refusal → World → List ℕ → Reply
+replied accepted (Ok x) w out = accepted x
+replied accepted (Err r) w out = refusal (refusal_number r) w out
 
 -- whether a test fails, and the refusal that it then gives
 pub record Test : Type 0 where
   pub fails : Bool
-  pub house : House
+  pub refusal : Refusal
 
 infix 20 ◌gives◌
-abbrev pub ◌gives◌ : Bool → House → Test
-fails gives house = record { fails = fails; house = house }
+abbrev pub ◌gives◌ : Bool → Refusal → Test
+fails gives refusal = record { fails = fails; refusal = refusal }
 
 -- the first test to fail gives its number, 0 where none does: "It is given exactly then."
 abbrev pub fails_b : Test → Bool
 fails_b t = t.fails
 
 abbrev pub refusing : Test → ℕ
-refusing t = number_of t.house
+refusing t = refusal_number t.refusal
 
 abbrev pub first_refusal : List Test → ℕ
 first_refusal tests = first fails_b refusing tests 0

@@ -1,8 +1,8 @@
 -- What the house tests let pass, and that a number is one refusal's; proved in proofs/Houses.
-use Rattle.std.specs.Prelude.{◌≡◌, ◌≤◌}
+use Rattle.std.specs.Prelude.{◌≡◌, ◌≤◌, Result}
 use Rattle.ground.specs.Kit.{true, List, ℕ, length}
 use Rattle.state.specs.declared.{State.State}
-use Rattle.house.specs.declared.{House.House}
+use Rattle.house.specs.declared.{Refusal.Refusal}
 use Rattle.disc.specs.Formats.{buffer_bytes, disc_bytes}
 use Rattle.sound.specs.Soundness.{sound_b}
 use Rattle.house.specs.World.{World}
@@ -10,7 +10,7 @@ use Rattle.house.specs.Refusals.{number_of, first_refusal, insert_tests, eject_t
 
 -- two answers that the promise of a house test allows have one number, so they are equal
 abbrev pub OneHouse : Type 0
-OneHouse = (h g : House) → number_of h ≡ number_of g → h ≡ g
+OneHouse = (h g : Result Unit Refusal) → number_of h ≡ number_of g → h ≡ g
 
 -- ---- "It is given exactly then."
 

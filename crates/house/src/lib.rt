@@ -6,9 +6,8 @@ ghost use Rattle.house.specs.Refusals.{number_of, first_refusal, move_tests, com
 
 use state::State;
 
-#[derive(Clone, Copy)]
-pub enum House {
-    Accepted,
+#[derive(Clone, Copy, PartialEq, Eq)]
+pub enum Refusal {
     PacketLength,
     Unsound,
     BufferLength,
@@ -18,77 +17,77 @@ pub enum House {
     NoSuchDisc,
 }
 
-// The house number, 0 where the call is accepted.
-pub fn number_of(house: House) -> u8
-    ensures { result ≡ number_of house }
+// The house number of a reply, 0 where the call is accepted; a match, for the paper has these numbers in a table.
+pub fn number_of<T>(reply: &Result<T, Refusal>) -> u8
+    ensures { result ≡ number_of reply.now }
 {
-    match house {
-        House::Accepted => 0,
-        House::PacketLength => 1,
-        House::Unsound => 2,
-        House::BufferLength => 3,
-        House::DiscLength => 4,
-        House::DiscIn => 5,
-        House::NoDiscIn => 6,
-        House::NoSuchDisc => 7,
+    match reply {
+        Ok(_) => 0,
+        Err(Refusal::PacketLength) => 1,
+        Err(Refusal::Unsound) => 2,
+        Err(Refusal::BufferLength) => 3,
+        Err(Refusal::DiscLength) => 4,
+        Err(Refusal::DiscIn) => 5,
+        Err(Refusal::NoDiscIn) => 6,
+        Err(Refusal::NoSuchDisc) => 7,
     }
 }
 
 #[tactic(auto, unfolding(crate::specs::Refusals::insert_tests))]
-pub fn insert_house(state: State, number: u8, disc: usize) -> House
+pub fn insert_house(state: State, number: u8, disc: usize) -> Result<(), Refusal>
     ensures { number_of result ≡ first_refusal (insert_tests state number disc) }
 {
     if !sound::sound(state) {
-        return House::Unsound;
+        return Err(Refusal::Unsound);
     }
     if state.media.disc != 0 {
-        return House::DiscIn;
+        return Err(Refusal::DiscIn);
     }
     if (number == 0) | (4 < number) {
-        return House::NoSuchDisc;
+        return Err(Refusal::NoSuchDisc);
     }
     if disc != disc::disc_bytes(number) {
-        return House::DiscLength;
+        return Err(Refusal::DiscLength);
     }
-    House::Accepted
+    Ok(())
 }
 
 #[tactic(auto, unfolding(crate::specs::Refusals::eject_tests))]
-pub fn eject_house(state: State) -> House
+pub fn eject_house(state: State) -> Result<(), Refusal>
     ensures { number_of result ≡ first_refusal (eject_tests state) }
 {
     if !sound::sound(state) {
-        return House::Unsound;
+        return Err(Refusal::Unsound);
     }
     if state.media.disc == 0 {
-        return House::NoDiscIn;
+        return Err(Refusal::NoDiscIn);
     }
-    House::Accepted
+    Ok(())
 }
 
 // Of a state and of the lengths that are lent.
 #[tactic(auto, unfolding(crate::specs::Refusals::move_tests))]
-pub fn move_house(state: State, buffer: usize, disc: usize) -> House
+pub fn move_house(state: State, buffer: usize, disc: usize) -> Result<(), Refusal>
     ensures { number_of result ≡ first_refusal (move_tests state buffer disc) }
 {
     if !sound::sound(state) {
-        return House::Unsound;
+        return Err(Refusal::Unsound);
     }
     if buffer != disc::BUFFER_BYTES {
-        return House::BufferLength;
+        return Err(Refusal::BufferLength);
     }
     if disc != disc::disc_bytes(state.media.disc) {
-        return House::DiscLength;
+        return Err(Refusal::DiscLength);
     }
-    House::Accepted
+    Ok(())
 }
 
 #[tactic(auto, unfolding(crate::specs::Refusals::command_tests, crate::specs::Refusals::move_tests))]
-pub fn command_house(state: State, packet: usize, buffer: usize, disc: usize) -> House
+pub fn command_house(state: State, packet: usize, buffer: usize, disc: usize) -> Result<(), Refusal>
     ensures { number_of result ≡ first_refusal (command_tests state packet buffer disc) }
 {
     if packet != 12 {
-        return House::PacketLength;
+        return Err(Refusal::PacketLength);
     }
     move_house(state, buffer, disc)
 }

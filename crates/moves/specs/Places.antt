@@ -30,11 +30,6 @@ pub record WriteSpan (number : ℕ) (from : DiscAt) (disc : List ℕ) : Type 0 w
   pub span : ReadSpan number from disc
   pub ends : (from.at.0 + from.left) % block_bytes number ≡ 0
 
--- the buffer holds a block, and the disc has room for one at the place
-pub record Block (number : ℕ) (place : BytePlace) (buffer disc : List ℕ) : Type 0 where
-  pub held : block_bytes number ≤ length buffer
-  pub within : place.0 + block_bytes number ≤ length disc
-
 -- how many bytes there are from a place to the end of its block
 abbrev pub rest_of : ℕ → BytePlace → ℕ
 rest_of number place = block_bytes number - place.0 % block_bytes number

@@ -1,12 +1,10 @@
-// What a feed and a pull reply.
+// What a feed and a pull answer.
 #![tactic(auto)]
 
-use house::House;
 use state::State;
 
 #[derive(Clone, Copy)]
-pub struct MoveReply {
-    pub house: House,
+pub struct Moved {
     pub count: usize,
     pub state: State,
 }

@@ -1,13 +1,16 @@
 -- A pull by the open transfer: what a proof has to show of it. Assumes nothing.
-use Rattle.std.specs.Prelude.{◌≡◌}
+use Rattle.std.specs.Prelude.{◌≡◌, Result, IsErrAnd}
 use Rattle.ground.specs.Kit.{refl, sym, ◌∙◌, List, [], ℕ}
 use Rattle.state.specs.declared.{AnswerAt.AnswerAt, DiscAt.DiscAt, Transfer.Transfer}
 use Rattle.state.specs.declared.Transfer.TheVariants.{Closed, Answer, Read, Write, ParameterList}
 use Rattle.state.specs.States.{moved_of}
-use Rattle.house.specs.World.{World, Reply}
+use Rattle.house.specs.declared.{Refusal.Refusal}
+use Rattle.house.specs.World.{World, Reply, unless_refused}
+use Rattle.house.specs.Refusals.{refusal_number}
 use Rattle.house.specs.Theorems.{Ready}
-use Rattle.house.proofs.Houses.{ready_in}
-use Rattle.moves.specs.Replies.{idle}
+use Rattle.house.proofs.Houses.{ready_in, turned_away}
+use Rattle.moves.specs.declared.{Moved.Moved}
+use Rattle.moves.specs.Replies.{idle, moved}
 use Rattle.moves.proofs.Leaving.{Leaves}
 use Rattle.pulls.specs.Pulling.{answer_pulled, read_pulled, gives, pull_by, pull_of}
 
@@ -64,3 +67,8 @@ unpulled w out t no_answer no_read = here (pulling t)
     here (idles none same) = sym (same w out)
     here (answers p e) = absurd (no_answer p e)
     here (reads p e) = absurd (no_read p e)
+
+-- the exit of a refused pull
+pub pull_refused : (w : World) (out : List ℕ) (house : ℕ) (accepted : Reply) (answer : Result Moved Refusal) (r : Refusal) → IsErrAnd answer (λ q. q ≡ r)
+    → refusal_number r ≡ house → moved answer out w ≡ unless_refused house w out accepted
+pull_refused w out house accepted answer r is e = turned_away house w out accepted _ answer r is e

@@ -8,14 +8,6 @@ use Rattle.house.specs.World.{World, in_state, reply}
 use Rattle.ground.proofs.Parts.{put_back}
 use Rattle.pulls.specs.Pulling.{pulled_of}
 
--- a copy of the source's part from `at` to `end` fills as the source from `at` on does
-pub fill_part : (at end : ℕ) (source out : List ℕ) → end ≤ length source
-    → fill_of (min (length (take (end - at) (drop at source))) (length out)) (take (end - at) (drop at source)) out
-    ≡ fill_of (min (end - at) (length out)) (drop at source) out
-fill_part at end source out h =
-    let l = length-take-le (end - at) (drop at source) (simp length-drop (omega arith)) in
-    rw (l, take-take (min (end - at) (length out)) (end - at) (drop at source) (omega arith))
-
 -- r bytes more, through the k bytes of `out` from `a` on, after `a` of them
 pub fill_more : (source out₀ out last : List ℕ) (a k r : ℕ) → a + r ≤ length source → a + k ≤ length out → r ≤ k
     → out ≡ take a source ++ drop a out₀ → last ≡ take r (drop a source) ++ drop r (take k (drop a out))
@@ -29,8 +21,3 @@ fill_more source out₀ out last a k r h i j e f =
     put_back out xs last a k i (omega arith) (rw n f)
     ∙ sets-eq xs out a (omega arith)
     ∙ rw (n, ← drop-drop r a out, d, drop-drop r a out₀, t, take-add a r source)
-
--- a reply, from the bytes that were filled and the state that was made
-pub pulled_by : (w : World) (rest : ℕ → Transfer) (f : Filled) (count : ℕ) (last : List ℕ) (next : State) → filled count last ≡ f
-    → next ≡ moved_of w.state (rest count) → reply 0 false count last (in_state w next) ≡ pulled_of rest w f
-pulled_by w rest f count last next e n = rw n (ap (pulled_of rest w) e)

@@ -2,11 +2,11 @@
 use Rattle.ground.specs.Kit.{false, List, [], ℕ, min, length, take, drop}
 use Rattle.state.specs.declared.{AnswerAt.AnswerAt, DiscAt.DiscAt, Transfer.Transfer}
 use Rattle.ground.specs.Filling.{Filled, fill_of}
-use Rattle.state.specs.States.{moved_of}
+use Rattle.state.specs.States.{moved_of, answer_after, disc_after}
 use Rattle.state.specs.declared.Transfer.TheVariants.{Closed, Answer, Read, Write, ParameterList}
 use Rattle.house.specs.World.{World, in_state, Reply, reply, unless_refused}
 use Rattle.house.specs.Refusals.{move_house}
-use Rattle.moves.specs.Replies.{idle, answer_after, disc_after}
+use Rattle.moves.specs.Replies.{idle}
 
 -- "A pull fills the first min(buffer, left) bytes of the lent buffer, leaves its tail .. and reports that count": the source from its
 -- place on

@@ -27,8 +27,9 @@ pub(crate) fn pull_blocks(from: DiscAt, number: u8, disc: &[u8], out: &mut [u8])
     ensures { filled result out.new ≡ served_of (drop from.at.0 disc.now) from.left out.old }
 {
     let at = from.at.0;
-    let wanted = ground::least(out.len(), from.left);
+    let wanted = out.len().min(from.left);
     let mut done = 0;
+    // no iterator, as the paper has each share written to a lent part that starts in the middle
     while done < wanted {
         done += pull_share(BytePlace(at + done), number, disc, &mut out[done..wanted]);
     }

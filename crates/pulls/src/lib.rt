@@ -6,45 +6,34 @@ mod blocks;
 ghost use Rattle.std.specs.Prelude.{◌≡◌};
 ghost use Rattle.house.specs.World.{World, in_state, in_lent};
 ghost use Rattle.moves.specs.Places.{AnswerSpan, ReadSpan};
-ghost use Rattle.moves.specs.Replies.{moved};
+ghost use Rattle.moves.specs.Replies.{went, moved};
 ghost use Rattle.pulls.specs.Pulling.{answer_pulled, read_pulled, pull_of};
 
 use disc::BytePlace;
-use house::House;
-use moves::MoveReply;
+use house::Refusal;
+use moves::Moved;
 use state::{AnswerAt, DiscAt, State, Transfer};
 
 // An open answer gives its first min(out, left) bytes from the block buffer.
-fn pull_answer(
-    state: State,
-    from: AnswerAt,
-    out: &mut [u8],
-    buffer: &[u8],
-    disc: &[u8],
-) -> MoveReply
+fn pull_answer(state: State, from: AnswerAt, out: &mut [u8], buffer: &[u8], disc: &[u8]) -> Moved
     requires { AnswerSpan from buffer.now }
-    ensures { (w : World) → moved result out.new (in_lent w buffer.now disc.now)
+    ensures { (w : World) → went result out.new (in_lent w buffer.now disc.now)
         ≡ answer_pulled from (in_state (in_lent w buffer.now disc.now) state) out.old }
 {
-    let at = from.at;
-    let end = at + from.left;
-    let count = ground::fill(&buffer[at..end], out);
+    let end = from.at + from.left;
+    let count = ground::fill(&buffer[from.at..end], out);
     let rest = AnswerAt {
-        at: at + count,
+        at: from.at + count,
         left: from.left - count,
     };
-    let next = state::moved(state, Transfer::Answer(rest));
-    MoveReply {
-        house: House::Accepted,
-        count: count,
-        state: next,
-    }
+    let state = state::moved(state, Transfer::Answer(rest));
+    Moved { count, state }
 }
 
 // An open read gives its first min(out, left) bytes from the disc.
-fn pull_read(state: State, from: DiscAt, out: &mut [u8], buffer: &[u8], disc: &[u8]) -> MoveReply
+fn pull_read(state: State, from: DiscAt, out: &mut [u8], buffer: &[u8], disc: &[u8]) -> Moved
     requires { ReadSpan state.media.disc from disc.now }
-    ensures { (w : World) → moved result out.new (in_lent w buffer.now disc.now)
+    ensures { (w : World) → went result out.new (in_lent w buffer.now disc.now)
         ≡ read_pulled from (in_state (in_lent w buffer.now disc.now) state) out.old }
 {
     let count = blocks::pull_blocks(from, state.media.disc, disc, out);
@@ -52,34 +41,19 @@ fn pull_read(state: State, from: DiscAt, out: &mut [u8], buffer: &[u8], disc: &[
         at: BytePlace(from.at.0 + count),
         left: from.left - count,
     };
-    let next = state::moved(state, Transfer::Read(rest));
-    MoveReply {
-        house: House::Accepted,
-        count: count,
-        state: next,
-    }
+    let state = state::moved(state, Transfer::Read(rest));
+    Moved { count, state }
 }
 
-pub fn pull(state: State, out: &mut [u8], buffer: &[u8], disc: &[u8]) -> MoveReply
-    ensures { (w : World) → moved result out.new (in_lent w buffer.now disc.now)
+#[tactic(auto, unfolding(crate::specs::Pulling::pull_of), using(crate::proofs::ByTransfer::pull_refused, crate::proofs::ByTransfer::unpulled))]
+pub fn pull(state: State, out: &mut [u8], buffer: &[u8], disc: &[u8]) -> Result<Moved, Refusal>
+    ensures { (w : World) → moved result out.new (in_state (in_lent w buffer.now disc.now) state)
         ≡ pull_of (in_state (in_lent w buffer.now disc.now) state) out.old }
 {
-    let house = house::move_house(state, buffer.len(), disc.len());
-    if house::number_of(house) != 0 {
-        return MoveReply {
-            house: house,
-            count: 0,
-            state: state,
-        };
-    }
-    let transfer = state.transfer;
-    match transfer {
-        Transfer::Answer(from) => pull_answer(state, from, out, buffer, disc),
-        Transfer::Read(from) => pull_read(state, from, out, buffer, disc),
-        _ => MoveReply {
-            house: House::Accepted,
-            count: 0,
-            state: state,
-        },
+    house::move_house(state, buffer.len(), disc.len())?;
+    match state.transfer {
+        Transfer::Answer(from) => Ok(pull_answer(state, from, out, buffer, disc)),
+        Transfer::Read(from) => Ok(pull_read(state, from, out, buffer, disc)),
+        _ => Ok(Moved { count: 0, state }),
     }
 }

@@ -22,14 +22,14 @@ gathers c =
     let start = c in
     let x = start.args in
     let at = list_bytes - x.from.left in
-    copied at (list_bytes - at) x.piece.now x.buffer.now (omega (arith, start.requires.left_le_list_bytes, start.requires.buffer_len)) c.fill-taken.result c.fill-taken.new.buffer
+    copied at (list_bytes - at) x.piece.now x.buffer.now (omega (arith, start.requires)) c.fill-taken.result c.fill-taken.new.buffer
     c.fill-taken.ensures
 
 -- as many bytes are taken as the piece and the list have
 count : (c : After-fill-taken)
     → let x = c.args in
     c.fill-taken.result ≡ min (length x.piece.now) x.from.left
-count c = omega (arith, (gathers c).share, c.requires.left_le_list_bytes)
+count c = omega (arith, (gathers c).share, c.requires)
 
 pub returns : goal.returns
 returns c w =
@@ -39,4 +39,4 @@ returns c w =
     let n = fill.fill-taken.result in
     let left : World → Reply = reply 0 false n x.piece.now in
     let bytes : List ℕ → Reply = λ buffer. left (list_goes x.from n (in_state (in_lent w buffer x.disc.now) x.state)) in
-    rw (← count (goal.at.returns c).After-fill-taken) (ap left (goes.list_goes-next.ensures w) ∙ ap bytes (gathers (goal.at.returns c).After-fill-taken).bytes)
+    rw (← count (goal.at.returns c).After-fill-taken) (ap left (goes.list_goes.ensures w) ∙ ap bytes (gathers (goal.at.returns c).After-fill-taken).bytes)

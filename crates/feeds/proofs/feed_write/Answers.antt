@@ -1,10 +1,9 @@
 use Rattle.std.specs.Prelude.{◌≡◌}
 use Rattle.ground.specs.Kit.{ap, false, min, arith, length}
 use Rattle.disc.specs.Formats.{block_bytes}
-use Rattle.state.specs.States.{moved_of}
+use Rattle.state.specs.States.{moved_of, disc_after}
 use Rattle.state.specs.declared.Transfer.TheVariants.{Write}
 use Rattle.house.specs.World.{in_state, in_lent, reply}
-use Rattle.moves.specs.Replies.{disc_after}
 use Rattle.feeds.specs.Feeding.{Writing, writing, written}
 use Rattle.feeds.proofs.Feeding.{taken_count}
 use Rattle.feeds.proofs.feed_write.Goals.{After-feed_blocks-count}
@@ -21,18 +20,15 @@ count call =
     call.feed_blocks-count.ensures
 
 pub overflow_add-rest : goal.overflow_add-rest
-overflow_add-rest c =
-    let start = c in omega (arith, count (goal.at.overflow_add-rest c).After-feed_blocks-count, start.requires.write_span.span.within)
+overflow_add-rest c = omega (arith, count (goal.at.overflow_add-rest c).After-feed_blocks-count, c.requires.span.within)
 
 pub overflow_sub-rest : goal.overflow_sub-rest
-overflow_sub-rest c =
-    omega (arith, count (goal.at.overflow_sub-rest c).After-feed_blocks-count)
+overflow_sub-rest c = omega (arith, count (goal.at.overflow_sub-rest c).After-feed_blocks-count)
 
 pub returns : goal.returns
 returns c v =
-    let call = c in
-    let x = call.args in
+    let x = c.args in
     let w = in_state (in_lent v x.buffer.now x.disc.now) x.state in
     let n = min (length x.piece.now) x.from.left in
-    rw (c.moved-next.ensures, count (goal.at.returns c).After-feed_blocks-count)
-    (ap (λ (u : Writing). reply 0 false n x.piece.now (written w (moved_of x.state (Write (disc_after x.from n))) u)) call.feed_blocks-count.ensures)
+    rw (c.moved-state.ensures, count (goal.at.returns c).After-feed_blocks-count)
+    (ap (λ (u : Writing). reply 0 false n x.piece.now (written w (moved_of x.state (Write (disc_after x.from n))) u)) c.feed_blocks-count.ensures)

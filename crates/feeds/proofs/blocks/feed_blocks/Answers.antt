@@ -13,7 +13,7 @@ use Rattle.feeds.proofs.blocks.feed_blocks.Goals as goal
 one_turn : (c : After-feed_share-done)
     → let call = c in
     let at-loop = call in
-    Turn at-loop.loop-done.done at-loop.least-wanted.result call.feed_share-done.result
+    Turn at-loop.loop-done.done at-loop.min-wanted.result call.feed_share-done.result
 one_turn c =
     let call = c in
     let at-loop = call in
@@ -21,11 +21,11 @@ one_turn c =
     let x = start.args in
     let piece = x.piece.now in
     let done = at-loop.loop-done.done in
-    let p = start.requires.write_span in
-    turn (block_bytes x.number) x.from.at.0 x.from.left (length piece) done at-loop.least-wanted.result call.feed_share-done.result
+    let p = start.requires in
+    turn (block_bytes x.number) x.from.at.0 x.from.left (length piece) done at-loop.min-wanted.result call.feed_share-done.result
     (block_holds x.number p.span.whole.low p.span.whole.high)
     p.ends
-    at-loop.least-wanted.ensures
+    at-loop.min-wanted.ensures
     (omega arith)
     (rw (tail_part done piece, length-drop done piece) at
     (taken_count (block_bytes x.number) (block_bytes x.number - (x.from.at.0 + done) % block_bytes x.number) call.feed_share-done.result

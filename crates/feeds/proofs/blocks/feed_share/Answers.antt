@@ -10,7 +10,7 @@ known : (c : After-block_bytes-block) → let x = c.args in Share c.block_bytes-
 known c =
     let start = c in
     let x = start.args in
-    share x.number x.place x.disc.now c.block_bytes-block.result c.block_bytes-block.ensures start.requires.place
+    share x.number x.place x.disc.now c.block_bytes-block.result c.block_bytes-block.ensures start.requires
 
 -- the buffer after the copy
 abbrev After : After-fill-count → List ℕ
@@ -27,7 +27,7 @@ gathers : (c : After-fill-count)
 gathers c =
     let x = c.args in
     let b = c.block_bytes-block.result in
-    let k : Share b x.place.0 (length x.disc.now) = share x.number x.place x.disc.now b c.block_bytes-block.ensures c.requires.place in
+    let k : Share b x.place.0 (length x.disc.now) = share x.number x.place x.disc.now b c.block_bytes-block.ensures c.requires in
     copied (x.place.0 % b) (b - x.place.0 % b) x.piece.now x.buffer.now (omega arith) c.fill-count.result
     c.fill-count.new.buffer
     c.fill-count.ensures
@@ -53,7 +53,7 @@ store_block-requires c =
     let block = c in
     let k = known (goal.at.store_block-requires c).After-block_bytes-block in
     let e = block.block_bytes-block.ensures in
-    record { held = rw (← e) (omega arith); within = rw (← e) (omega arith) }
+    rw (← e) (omega arith)
 
 pub returns-then-within-count : goal.returns-then-within-count
 returns-then-within-count c =

@@ -11,7 +11,7 @@ use Rattle.pulls.proofs.blocks.pull_blocks.Goals as goal
 one_turn : (c : After-pull_share-done)
     → let call = c in
     let at-loop = call in
-    Turn at-loop.loop-done.done at-loop.least-wanted.result call.pull_share-done.result
+    Turn at-loop.loop-done.done at-loop.min-wanted.result call.pull_share-done.result
 one_turn c =
     let call = c in
     let at-loop = call in
@@ -39,9 +39,9 @@ loop-done-preserved c =
     let r = call.pull_share-done.result in
     let share = call.pull_share-done.ensures in
     let t = one_turn (goal.at.loop-done-preserved c).After-pull_share-done in
-    let room : done + r ≤ length (drop at disc) = simp length-drop (omega (arith, start.requires.within, at-loop.least-wanted.ensures)) in (
+    let room : done + r ≤ length (drop at disc) = simp length-drop (omega (arith, start.requires.within, at-loop.min-wanted.ensures)) in (
       t.within,
-      fill_more (drop at disc) x.out.now at-loop.loop-done.out call.pull_share-done.new.out done (at-loop.least-wanted.result - done) r
+      fill_more (drop at disc) x.out.now at-loop.loop-done.out call.pull_share-done.new.out done (at-loop.min-wanted.result - done) r
           room (omega arith) (omega arith)
           at-loop.loop-done.invariant.1
           (rw (drop-drop done at disc, ap (λ (f : Filled). f.count) share) (ap (λ (f : Filled). f.bytes) share)),
