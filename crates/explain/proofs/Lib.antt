@@ -1,4 +1,4 @@
-pub mod Rows
 pub mod Short
 pub mod Said
 pub mod Same
+pub mod Packets

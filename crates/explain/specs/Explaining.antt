@@ -1,9 +1,9 @@
 -- What a line of the player means, in words behind it.
-use Rattle.std.specs.Prelude.{◌≡◌, ◌&&◌, ◌∷◌, ◌++◌, ◌<◌, ◌≤◌}
+use Rattle.std.specs.Prelude.{◌≡◌, ◌&&◌, ◌∷◌, ◌++◌, ◌<◌, ◌≤◌, Option, Some, None}
 use Rattle.ground.specs.Kit.{Bool, true, false, cond, not, List, [], ℕ, eqb, length, take, drop}
 use Rattle.state.specs.declared.{Sense.Sense}
 use Rattle.disc.specs.declared.{BlockAddress.BlockAddress}
-use Rattle.packet.specs.declared.{Known.Known, Rule.Rule}
+use Rattle.packet.specs.declared.{Rule.Rule}
 use Rattle.record.specs.declared.{Record.Record}
 use Rattle.ground.specs.Bytes.{text}
 use Rattle.state.specs.Senses.{no_sense, bad_list, same_b, named_b}
@@ -13,8 +13,7 @@ use Rattle.record.specs.Records.{record_of}
 use Rattle.record.specs.Waiting.{enough_b}
 use Rattle.text.specs.Numbers.{decimal_of}
 use Rattle.explain.specs.Words.{name_text, code_text, why_text, reason_text}
-use Rattle.packet.specs.declared.Known.TheVariants.{Unknown, Base}
-use Rattle.record.specs.declared.Record.TheVariants.{Insert, Eject, Command, Feed, Pull, Bad}
+use Rattle.record.specs.declared.Record.TheVariants.{Insert, Eject, Command, Feed, Pull}
 
 abbrev pub refused_text : ℕ → List ℕ
 refused_text house = text " refused, " ++ reason_text house
@@ -40,9 +39,9 @@ range_text from count =
 unfoldable pub base_text : Rule → List ℕ → List ℕ
 base_text rule p = name_text (code_of p) ++ cond rule.asked.range (range_text (address_of p) (length_of rule.length p)) []
 
-abbrev pub called_by : Known → List ℕ → List ℕ
-called_by Unknown p = code_text (code_of p)
-called_by (Base rule) p = base_text rule p
+abbrev pub called_by : Option Rule → List ℕ → List ℕ
+called_by None p = code_text (code_of p)
+called_by (Some rule) p = base_text rule p
 
 unfoldable pub called_text : List ℕ → List ℕ
 called_text p = called_by (rule_of p) p
@@ -70,13 +69,13 @@ unfoldable pub bad_text : List ℕ
 bad_text = text "cut short, or of another kind or length, or a protection above 1, or a pull above 512"
 
 -- a packet stands behind the header of 4 bytes
-abbrev pub meaning_of : List ℕ → ℕ → Sense → ℕ → Record → List ℕ
-meaning_of bytes house sense count (Insert number prot) = insertion_text house number prot
-meaning_of bytes house sense count Eject = ejection_text house
-meaning_of bytes house sense count Command = command_text (take 12 (drop 4 bytes)) house sense
-meaning_of bytes house sense count (Feed n) = fed_text house sense count n
-meaning_of bytes house sense count (Pull n) = move_text (text "pull") (text " bytes given") house count n
-meaning_of bytes house sense count Bad = bad_text
+abbrev pub meaning_of : List ℕ → ℕ → Sense → ℕ → Option Record → List ℕ
+meaning_of bytes house sense count (Some (Insert number prot)) = insertion_text house number prot
+meaning_of bytes house sense count (Some Eject) = ejection_text house
+meaning_of bytes house sense count (Some Command) = command_text (take 12 (drop 4 bytes)) house sense
+meaning_of bytes house sense count (Some (Feed n)) = fed_text house sense count n
+meaning_of bytes house sense count (Some (Pull n)) = move_text (text "pull") (text " bytes given") house count n
+meaning_of bytes house sense count None = bad_text
 
 -- what is put behind a line in the place of its line feed
 unfoldable pub explained_text : List ℕ → ℕ → Sense → ℕ → List ℕ
@@ -84,7 +83,7 @@ explained_text bytes house sense count = text ": " ++ meaning_of bytes house sen
 
 -- no words are missing: every base command has a name, every triple of a check says why, and every refusal
 pub record AllSaid : Type 0 where
-  pub names : (p : List ℕ) (rule : Rule) → rule_of p ≡ Base rule → 0 < length (name_text (code_of p))
+  pub names : (p : List ℕ) (rule : Rule) → rule_of p ≡ Some rule → 0 < length (name_text (code_of p))
   pub whys : (s : Sense) → named_b s ≡ true → same_b s no_sense ≡ false → 0 < length (why_text s)
   pub reasons : (house : ℕ) → 0 < house → 0 < length (reason_text house)
 

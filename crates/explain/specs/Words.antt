@@ -1,6 +1,7 @@
 -- The words of an explanation: the names of the commands, why a command failed, why a call was refused.
-use Rattle.std.specs.Prelude.{◌&&◌, ◌||◌, ◌∷◌, ◌++◌}
-use Rattle.ground.specs.Kit.{Bool, cond, not, List, [], ℕ, eqb, ltb}
+use Rattle.std.specs.Prelude.{◌∷◌, ◌++◌}
+use Rattle.ground.specs.Kit.{cond, List, [], ℕ, eqb, ltb}
+use Rattle.std.specs.Borrow.{Bor}
 use Rattle.state.specs.declared.{Sense.Sense}
 use Rattle.ground.specs.Bytes.{text}
 use Rattle.ground.specs.Tables.{Entry, ◌is◌, find}
@@ -74,9 +75,7 @@ house_text house = text "house number " ++ decimal_of house
 unfoldable pub reason_text : ℕ → List ℕ
 reason_text house = cond (ltb 7 house) (house_text house) (find house reasons [])
 
--- the words of a key in a table as bytes, whose rows are a key, its words and a line feed: `first` says that the next byte is a key,
--- `found` that it was this key
-unfoldable pub row_text : ℕ → Bool → Bool → List ℕ → List ℕ
-row_text key first found [] = []
-row_text key first found (b ∷ bs) =
-    cond (not first && found && not (eqb b 10)) (b ∷ []) [] ++ row_text key (eqb b 10) ((first && eqb key b) || (not first && found)) bs
+-- the words of a key in a table as the code has it
+abbrev pub row_text : ℕ → List (ℕ × Bor (List ℕ)) → List ℕ
+row_text key [] = []
+row_text key (row ∷ rows) = cond (eqb key row.0) row.1.now (row_text key rows)

@@ -1,5 +1,5 @@
 -- How long a line can be. Assumes nothing.
-use Rattle.std.specs.Prelude.{◌≡◌, ◌∷◌, ◌+◌, ◌*◌, ◌≤◌}
+use Rattle.std.specs.Prelude.{◌≡◌, ◌∷◌, ◌+◌, ◌*◌, ◌≤◌, Option, Some, None}
 use Rattle.ground.specs.Kit.{refl, Bool, true, false, cond, List, [], ℕ, arith, ltb, length, length-append, length-take, length-replicate}
 use Rattle.record.specs.declared.{Record.Record}
 use Rattle.state.specs.declared.{Sense.Sense}
@@ -9,7 +9,7 @@ use Rattle.drive.specs.Calls.{call_of}
 use Rattle.drive.specs.Calls as call
 use Rattle.text.specs.Numbers.{hex_of, hexes_of}
 use Rattle.text.proofs.Reading.{few_digits}
-use Rattle.record.specs.declared.Record.TheVariants.{Insert, Eject, Command, Feed, Pull, Bad}
+use Rattle.record.specs.declared.Record.TheVariants.{Insert, Eject, Command, Feed, Pull}
 use Rattle.record.specs.Records.{record_of}
 use Rattle.record.specs.Holding.{Holds}
 use Rattle.record.proofs.Holding.{all_hold}
@@ -53,16 +53,16 @@ line_long number s h = here s.bad
     here false = omega (arith, played_long number s h)
 
 -- a pull shows no more than it asked for, and no other record shows anything
-shown_few : (w : World) (script : List ℕ) (r : Record) → Holds r script → length (said_of w script r).shown ≤ 512
+shown_few : (w : World) (script : List ℕ) (r : Option Record) → Holds r script → length (said_of w script r).shown ≤ 512
 unfolding called_of pull_said
-shown_few w script (Insert number prot) h = omega arith
-shown_few w script Eject h = omega arith
-shown_few w script Command h = omega arith
-shown_few w script (Feed n) h = omega arith
-shown_few w script (Pull n) h =
+shown_few w script (Some (Insert number prot)) h = omega arith
+shown_few w script (Some Eject) h = omega arith
+shown_few w script (Some Command) h = omega arith
+shown_few w script (Some (Feed n)) h = omega arith
+shown_few w script (Some (Pull n)) h =
     let r = (call_of (lending w) (call.Pull (zeros n))).heard in
     rw (length-take r.count r.out) (omega (arith, count_within (lending w) (zeros n), h.1, length-replicate {A = ℕ} n 0))
-shown_few w script Bad h = omega arith
+shown_few w script None h = omega arith
 
 pub fits_line : (w : World) (number : ℕ) (script : List ℕ) → length (line_of number (said_of w script (record_of script))) ≤ 1100
 fits_line w number script = line_long number (said_of w script (record_of script)) (shown_few w script (record_of script) (all_hold script))

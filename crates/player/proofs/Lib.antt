@@ -1,5 +1,5 @@
-pub mod Showing
 pub mod Lending
+pub mod Telling
 pub mod Stepping
 pub mod Lengths
 pub mod Theorems

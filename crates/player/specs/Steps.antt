@@ -1,6 +1,7 @@
 -- The bench player, a record at a time.
-use Rattle.std.specs.Prelude.{◌&&◌, ◌||◌}
+use Rattle.std.specs.Prelude.{◌&&◌, ◌||◌, Option, Some, None}
 use Rattle.ground.specs.Kit.{Bool, true, false, cond, not, List, ℕ, eqb, length}
+use Rattle.state.specs.declared.{State.State}
 use Rattle.player.specs.declared.{Progress.Progress}
 use Rattle.house.specs.World.{World, world}
 use Rattle.text.specs.Ink.{Ink, ink, put_all}
@@ -20,11 +21,15 @@ pub record Stepped : Type 0 where
   pub count : ℕ
   pub world : World
 
--- a step's answer with what it was lent
-abbrev pub stepped : Progress → List ℕ → List ℕ → List ℕ → Stepped
-stepped r line buffer disc =
+-- nothing is played, and no line is printed
+abbrev pub waiting : World → List ℕ → Stepped
+waiting w line = record { waits = true; bad = false; used = 0; line = ink 0 line; house = 0; count = 0; world = w }
+
+-- the answer of a step in that state, with what it was lent
+abbrev pub stepped : State → Option Progress → List ℕ → List ℕ → List ℕ → Stepped
+stepped state (Some r) line buffer disc =
     record {
-      waits = r.waits;
+      waits = false;
       bad = r.bad;
       used = r.used;
       line = ink r.length line;
@@ -32,6 +37,7 @@ stepped r line buffer disc =
       count = r.count;
       world = world r.state buffer disc;
     }
+stepped state None line buffer disc = waiting (world state buffer disc) line
 
 -- the record at the front can be told: from the bytes that have come, or because there are no more
 abbrev pub ready_b : List ℕ → Bool → Bool
@@ -49,10 +55,6 @@ played_of number script line s =
       count = s.count;
       world = s.world;
     }
-
--- nothing is played, and no line is printed
-abbrev pub waiting : World → List ℕ → Stepped
-waiting w line = record { waits = true; bad = false; used = 0; line = ink 0 line; house = 0; count = 0; world = w }
 
 unfoldable pub step_of : World → ℕ → List ℕ → Bool → List ℕ → Stepped
 step_of w number script ended line =

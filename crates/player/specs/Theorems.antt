@@ -1,6 +1,7 @@
 -- What holds of every step. Each is proved in `proofs/` under the name in small letters, `UsesWhatIsThere` as `uses_what_is_there`.
-use Rattle.std.specs.Prelude.{◌≡◌, ◌++◌, ◌<◌, ◌≤◌}
+use Rattle.std.specs.Prelude.{◌≡◌, ◌++◌, ◌<◌, ◌≤◌, Option}
 use Rattle.ground.specs.Kit.{Bool, true, false, List, ℕ, length, drop}
+use Rattle.state.specs.declared.{State.State}
 use Rattle.player.specs.declared.{Progress.Progress}
 use Rattle.house.specs.World.{World}
 use Rattle.text.specs.Ink.{ink}
@@ -38,5 +39,5 @@ WhateverFollows = (w : World) (number : ℕ) (script more : List ℕ) (ended : B
 
 -- two answers that the promise of a step allows are equal: the answer, and each byte of line, block buffer and disc
 abbrev pub OneStep : Type 0
-OneStep = (s : Stepped) (r q : Progress) (line buffer disc line' buffer' disc' : List ℕ)
-    → stepped r line buffer disc ≡ s → stepped q line' buffer' disc' ≡ s → (r ≡ q) × (line ≡ line') × (buffer ≡ buffer') × (disc ≡ disc')
+OneStep = (s : Stepped) (state : State) (r q : Option Progress) (line buffer disc line' buffer' disc' : List ℕ)
+    → stepped state r line buffer disc ≡ s → stepped state q line' buffer' disc' ≡ s → (r ≡ q) × (line ≡ line') × (buffer ≡ buffer') × (disc ≡ disc')

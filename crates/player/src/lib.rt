@@ -8,18 +8,16 @@ ghost use Rattle.std.specs.Prelude.{◌≡◌};
 ghost use Rattle.house.specs.World.{world};
 ghost use Rattle.player.specs.Steps.{stepped, step_of};
 
-use drive::House;
 use state::State;
 
+// What a record came to that was told.
 #[derive(Clone, Copy)]
 pub struct Progress {
-    // nothing is played: bytes are missing, or none are left
-    pub waits: bool,
-    // a bad record: the run stops
+    // a bad record: the run stops; its length and its line are told, too (specs/Steps)
     pub bad: bool,
     // how many bytes the record says it has: of a bad one it may be more than there are
     pub used: usize,
-    // how many bytes its line has
+    // how many bytes its line has, in the buffer that is lent for it and that `OneStep` speaks of
     pub length: usize,
     // the paper's house number, and how many bytes a feed took or a pull gave
     pub house: u8,
@@ -27,11 +25,10 @@ pub struct Progress {
     pub state: State,
 }
 
-// What a record came to; the first `shown` bytes of the buffer for pulls are to be printed.
+// What a record came to that was played, with its house number as it is printed; the first `shown` bytes of the buffer for pulls are to be printed.
 #[derive(Clone, Copy)]
 pub(crate) struct Outcome {
-    pub(crate) bad: bool,
-    pub(crate) house: House,
+    pub(crate) house: u8,
     pub(crate) count: usize,
     pub(crate) shown: usize,
     pub(crate) state: State,
@@ -43,7 +40,8 @@ pub const DISC_BYTES: usize = 32768;
 // Long enough for every line: three numbers of 20 digits at the most, a triple, and 512 bytes.
 pub const LINE_BYTES: usize = 1100;
 
-// The record at the front of the script is played, if it can be told: `ended` says that no bytes come behind these.
+// The record at the front of the script is played, if it can be told: `ended` says that no bytes come behind these. It waits (`None`) where bytes
+// are missing, or none are left.
 pub fn step(
     state: State,
     number: u64,
@@ -52,33 +50,28 @@ pub fn step(
     buffer: &mut [u8],
     disc: &mut [u8],
     line: &mut [u8],
-) -> Progress
-    ensures { stepped result line.new buffer.new disc.new
+) -> Option<Progress>
+    ensures { stepped state result line.new buffer.new disc.new
         ≡ step_of (world state buffer.old disc.old) number script.now ended line.old }
 {
     if !(record::enough(script) | (ended & (script.len() != 0))) {
-        return Progress {
-            waits: true,
-            bad: false,
-            used: 0,
-            length: 0,
-            house: 0,
-            count: 0,
-            state: state,
-        };
+        return None;
     }
     let mut out = [0u8; record::PIECE_BYTES];
-    let outcome = playing::play(state, script, buffer, disc, &mut out);
-    let length = lines::put_line(line, &out, number, outcome);
-    let refusal = outcome.house;
-    let after = outcome.state;
-    Progress {
-        waits: false,
-        bad: outcome.bad,
+    let played = playing::play(state, script, buffer, disc, &mut out);
+    let length = lines::lined(line, &out, number, played);
+    let outcome = played.unwrap_or(Outcome {
+        house: 0,
+        count: 0,
+        shown: 0,
+        state,
+    });
+    Some(Progress {
+        bad: played.is_none(),
         used: record::length_field(script),
-        length: length,
-        house: drive::number_of(refusal),
+        length,
+        house: outcome.house,
         count: outcome.count,
-        state: after,
-    }
+        state: outcome.state,
+    })
 }

@@ -1,6 +1,8 @@
 -- The loop of the program `bench`: a turn, its line, and a read where one is due.
-use Rattle.std.specs.Prelude.{◌≡◌, ◌++◌, ◌+◌, ◌-◌, ◌^◌, ◌<◌, ◌≤◌, pos}
-use Rattle.ground.specs.Kit.{Bool, cond, List, [], ℕ, zero, suc, length, take, drop, get_or}
+use Rattle.std.specs.Prelude.{◌≡◌, ◌++◌, ◌+◌, ◌-◌, ◌^◌, ◌<◌, ◌≤◌, Some}
+use Rattle.ground.specs.Kit.{Bool, true, false, List, [], ℕ, zero, suc, length, take, drop, get_or}
+use Rattle.turns.specs.declared.{Ahead.Ahead}
+use Rattle.turns.specs.declared.Ahead.TheVariants.{Read, Turn, End, Stop}
 use Rattle.window.specs.Windows.{held}
 use Rattle.window.specs.Streams.{brings}
 use Rattle.window.specs.Loops.{Leaves, refilled}
@@ -11,16 +13,20 @@ use Rattle.runs.specs.WholeRuns.{lines_then, bench}
 abbrev pub reread : (List ℕ → List ℕ) → Turned → List ℕ → Turned
 reread leaves t more =
     let room = (refilled leaves (held t.run.window t.room) more).room in
-    turned (came_of t.run (pos (length more)) room) room t.buffer t.disc t.line
+    turned (came_of t.run (Some (length more)) room) room t.buffer t.disc t.line
+
+-- by what comes next of a run: what is printed after a read, or goes on, or what is said last
+abbrev pub going : (Bool → List ℕ) → List ℕ → List ℕ → Ahead → List ℕ
+going last read on Read = read
+going last read on Turn = on
+going last read on End = last false
+going last read on Stop = last true
 
 -- what is printed after a turn, with what is printed from then on; once the run is not on any more, what is said last: the exit status
 abbrev pub run_turn : (Bool → List ℕ) → (Turned → List ℕ → List ℕ → List ℕ) → (List ℕ → List ℕ) → Turned → List ℕ → List ℕ → List ℕ
 run_turn last on leaves t coming parts =
     let more = brings (length t.room - t.run.window.upto) (get_or parts 0 0) coming in
-    take t.run.length t.line
-    ++ cond t.run.on
-    (cond t.run.due (on (reread leaves t more) (drop (length more) coming) (drop 1 parts)) (on t coming parts))
-    (last t.run.bad)
+    take t.run.length t.line ++ going last (on (reread leaves t more) (drop (length more) coming) (drop 1 parts)) (on t coming parts) t.run.ahead
 
 -- what so many turns print, with the bytes that are still to come and the parts in which they do
 abbrev pub running : Bool → (Bool → List ℕ) → (ℕ → List ℕ → List ℕ) → ℕ → Turned → List ℕ → List ℕ → List ℕ

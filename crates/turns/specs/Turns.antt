@@ -1,9 +1,9 @@
 -- The bench player's loop, a turn at a time.
-use Rattle.std.specs.Prelude.{◌&&◌, ◌||◌, ◌+◌, ◌-◌, ◌^◌, ℤ, pos}
-use Rattle.ground.specs.Kit.{Bool, true, false, cond, not, List, ℕ, min}
-use Rattle.turns.specs.declared.{Run.Run}
+use Rattle.std.specs.Prelude.{◌&&◌, ◌+◌, ◌-◌, ◌^◌, Option, Some, None}
+use Rattle.ground.specs.Kit.{Bool, cond, not, List, ℕ, min}
+use Rattle.turns.specs.declared.{Ahead.Ahead, Run.Run}
+use Rattle.turns.specs.declared.Ahead.TheVariants.{Read, Turn, End, Stop}
 use Rattle.window.specs.declared.{Window.Window}
-use Rattle.std.specs.Int.Signed.{le_z}
 use Rattle.state.specs.States.{power_on}
 use Rattle.house.specs.World.{world}
 use Rattle.window.specs.Windows.{unread, opened_of, used_of, within_of, due_of, settled_of}
@@ -16,9 +16,7 @@ use Rattle.player.specs.Steps.{Stepped, step_of}
 abbrev pub start_of : Run
 start_of =
     record {
-      on = true;
-      due = true;
-      bad = false;
+      ahead = Read;
       window = opened_of;
       number = 1;
       state = power_on;
@@ -47,13 +45,15 @@ in_line s i = record { waits = s.waits; bad = s.bad; used = s.used; line = i; ho
 abbrev pub worded : Bool → List ℕ → Stepped → Stepped
 worded explain bytes s = in_line s (worded_line explain bytes s)
 
--- the run after a step with a line of that length: "and the run stops" at a bad record, and where it waits and no read is due
+-- what comes after a step: "and the run stops" at a bad record, and it is over where it waits and no read is due
+abbrev pub ahead_of : Bool → Bool → Bool → Ahead
+ahead_of bad waits due = cond bad Stop (cond waits (cond due Read End) Turn)
+
+-- the run after a step with a line of that length
 abbrev pub run_of : Stepped → ℕ → Bool → Window → ℕ → Run
 run_of s length due window number =
     record {
-      on = not (s.bad || (s.waits && not due));
-      due = due;
-      bad = s.bad;
+      ahead = ahead_of s.bad s.waits due;
       window = window;
       number = next_of s.waits number;
       state = s.world.state;
@@ -85,14 +85,20 @@ turn_of run explain room buffer disc line =
     left_by window room run.number
     (worded explain bytes (step_of (world run.state buffer disc) run.number bytes window.ended line))
 
--- after a read: none is due any more, and one that failed stops the run
-abbrev pub came_of : Run → ℤ → List ℕ → Run
-came_of run got room =
+-- what comes after a read: none is due any more, and one that failed ends the run
+abbrev pub read_ahead : Ahead → Option ℕ → Ahead
+read_ahead Read (Some got) = Turn
+read_ahead Read None = End
+read_ahead Turn (Some got) = Turn
+read_ahead Turn None = End
+read_ahead End read = End
+read_ahead Stop read = Stop
+
+abbrev pub came_of : Run → Option ℕ → List ℕ → Run
+came_of run read room =
     record {
-      on = run.on && le_z (pos 0) got;
-      due = false;
-      bad = run.bad;
-      window = windows.came_of run.window got room;
+      ahead = read_ahead run.ahead read;
+      window = windows.came_of run.window read room;
       number = run.number;
       state = run.state;
       length = run.length;

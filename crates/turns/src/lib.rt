@@ -2,7 +2,8 @@
 #![tactic(auto)]
 
 ghost use Rattle.std.specs.Prelude.{◌≡◌};
-ghost use Rattle.ground.specs.Kit.{[]};
+ghost use Rattle.ground.specs.Kit.{false, []};
+ghost use Rattle.state.specs.declared.State.{State};
 ghost use Rattle.text.specs.Ink.{ink};
 ghost use Rattle.player.specs.Steps.{stepped};
 ghost use Rattle.turns.specs.Turns.{start_of, next_of, done_of, worded_line, run_of, turned, turn_of, came_of};
@@ -11,19 +12,25 @@ use player::Progress;
 use state::State;
 use window::Window;
 
+// What comes next of a run.
+#[derive(Clone, Copy, PartialEq, Eq)]
+pub enum Ahead {
+    Read,
+    Turn,
+    // no bytes are left, or a read failed
+    End,
+    // a bad record ended it
+    Stop,
+}
+
 #[derive(Clone, Copy)]
 pub struct Run {
-    // the run goes on
-    pub on: bool,
-    // a read is due
-    pub due: bool,
-    // a bad record ended it
-    pub bad: bool,
+    pub ahead: Ahead,
     pub window: Window,
     // of the next record
     pub number: u64,
     pub state: State,
-    // how many bytes the line has of the record that was played in this turn, 0 where it waited
+    // how many bytes the line has of the record that was played in this turn: none where it waited
     pub length: usize,
 }
 
@@ -31,64 +38,67 @@ pub struct Run {
 pub fn start() -> Run
     ensures { result ≡ start_of }
 {
-    let window = window::opened();
-    let state = drive::power_on();
     Run {
-        on: true,
-        due: true,
-        bad: false,
-        window: window,
+        ahead: Ahead::Read,
+        window: window::opened(),
         number: 1,
-        state: state,
+        state: drive::power_on(),
         length: 0,
     }
 }
 
 // No run gets as far as the last number of 64 bits.
-fn next_number(waits: bool, number: u64) -> u64
-    ensures { result ≡ next_of waits number }
+fn next_number(number: u64) -> u64
+    ensures { result ≡ next_of false number }
 {
-    if waits {
-        return number;
-    }
-    if number < u64::MAX {
-        number + 1
-    } else {
-        u64::MAX
-    }
+    number.saturating_add(1)
 }
 
-// How many bytes a record used up: none where it is bad.
-fn done(bad: bool, used: usize) -> usize
-    ensures { result ≡ done_of bad used }
+// How many bytes a record used up: none where it is bad, or waits.
+fn done(step: Option<Progress>) -> usize
+    ensures { (state : State) → let s = stepped state step [] [] [] in result ≡ done_of s.bad s.used }
 {
-    if bad { 0 } else { used }
+    match step {
+        Some(step) if step.bad => 0,
+        Some(step) => step.used,
+        None => 0,
+    }
 }
 
 // The words of a step on these bytes go behind its line, if they are asked for; how long the line then is.
-pub fn put_words(explain: bool, step: Progress, bytes: &[u8], line: &mut [u8]) -> usize
-    ensures { ink result line.new ≡ worded_line explain bytes.now (stepped step line.old [] []) }
+#[tactic(auto, unfolding(crate::specs::Turns::worded_line))]
+pub fn put_words(explain: bool, step: Option<Progress>, bytes: &[u8], line: &mut [u8]) -> usize
+    ensures { (state : State) → ink result line.new
+        ≡ worded_line explain bytes.now (stepped state step line.old [] []) }
 {
-    if step.waits | !explain {
-        return step.length;
+    match step {
+        Some(step) if explain => {
+            let sense = step.state.host.sense;
+            explain::put_explained(line, step.length, bytes, step.house, sense, step.count)
+        }
+        Some(step) => step.length,
+        None => 0,
     }
-    let sense = step.state.host.sense;
-    explain::put_explained(line, step.length, bytes, step.house, sense, step.count)
 }
 
 // The run after a step with a line of that length: one that waits where no read is due is over.
-fn run_of(step: Progress, length: usize, due: bool, window: Window, number: u64) -> Run
-    ensures { result ≡ run_of (stepped step [] [] []) length due window number }
+fn run_of(run: Run, step: Option<Progress>, length: usize, due: bool, window: Window) -> Run
+    ensures { result ≡ run_of (stepped run.state step [] [] []) length due window run.number }
 {
-    let state = step.state;
-    Run {
-        on: !(step.bad | (step.waits & !due)),
-        due: due,
-        bad: step.bad,
-        window: window,
-        number: next_number(step.waits, number),
-        state: state,
-        length: length,
+    match step {
+        Some(step) => Run {
+            ahead: if step.bad { Ahead::Stop } else { Ahead::Turn },
+            window,
+            number: next_number(run.number),
+            state: step.state,
+            length,
+        },
+        None => Run {
+            ahead: if due { Ahead::Read } else { Ahead::End },
+            window,
+            length,
+            ..run
+        },
     }
 }
 
@@ -104,42 +114,35 @@ pub fn turn(
     ensures { turned result room.new buffer.new disc.new line.new
         ≡ turn_of run explain room.old buffer.old disc.old line.old }
 {
-    let before = run.window;
-    let window = window::within(before, room);
-    let from = window.from;
-    let upto = window.upto;
-    let ended = window.ended;
-    let state = run.state;
+    let window = window::within(run.window, room);
+    let bytes = &room[window.from..window.upto];
     let step = player::step(
-        state,
+        run.state,
         run.number,
-        &room[from..upto],
-        ended,
+        bytes,
+        window.ended,
         buffer,
         disc,
         line,
     );
-    let length = put_words(explain, step, &room[from..upto], line);
-    let left = window::used(window, done(step.bad, step.used));
-    let due = window::is_due(window, step.waits);
+    let length = put_words(explain, step, bytes, line);
+    let left = window::used(window, done(step));
+    let due = window::is_due(window, step.is_none());
     let after = window::settled(left, due, room);
-    run_of(step, length, due, after, run.number)
+    run_of(run, step, length, due, after)
 }
 
-// After a read that was due; one that failed stops the run.
-pub fn came(run: Run, got: isize, room: &[u8]) -> Run
-    ensures { result ≡ came_of run got room.now }
+// After a read that was due; one that failed (`None`) ends the run.
+pub fn came(run: Run, read: Option<usize>, room: &[u8]) -> Run
+    ensures { result ≡ came_of run read room.now }
 {
-    let before = run.window;
-    let state = run.state;
-    let after = window::came(before, got, room);
     Run {
-        on: run.on & (0 <= got),
-        due: false,
-        bad: run.bad,
-        window: after,
-        number: run.number,
-        state: state,
-        length: run.length,
+        ahead: match (run.ahead, read) {
+            (Ahead::Read | Ahead::Turn, Some(_)) => Ahead::Turn,
+            (Ahead::Read | Ahead::Turn, None) => Ahead::End,
+            (over, _) => over,
+        },
+        window: window::came(run.window, read, room),
+        ..run
     }
 }
