@@ -1,10 +1,8 @@
 -- Where a program reads.
-use Rattle.ground.specs.Kit.{Bool, true, false}
-use Rattle.shell.specs.declared.Source.{Source}
-use Rattle.shell.specs.declared.Source.TheVariants.{Nowhere, Standard, Named}
+use Rattle.std.specs.Prelude.{Option, is_some}
+use Rattle.ground.specs.Kit.{Bool}
+use Rattle.shell.specs.declared.{Input.Input}
 
 -- whether there is anything to read
-abbrev pub open_b : Source → Bool
-open_b Nowhere = false
-open_b (Standard s) = true
-open_b (Named f) = true
+abbrev pub open_b : Option Input → Bool
+open_b input = is_some input

@@ -1,24 +1,25 @@
 // What a program shares with the shell that starts it: its arguments, its input, what it says of trouble, and its exit status.
 #![tactic(auto)]
 
-ghost use Rattle.std.specs.Prelude.{◌≡◌, ◌≤◌, OnOk, OnErr, pos, negsuc, ◌≤ℤ◌};
+ghost use Rattle.std.specs.Prelude.{◌≡◌, ◌≤◌, IfSome};
 ghost use Rattle.ground.specs.Kit.{true, false, length, cond};
 ghost use Rattle.std.specs.Process.{exit_status};
 ghost use Rattle.shell.specs.Arguments.{Within, option_b, with_file, with_option, with_word};
 ghost use Rattle.shell.specs.Sources.{open_b};
-ghost use Rattle.shell.specs.Voices.{status_left};
+ghost use Rattle.shell.specs.Voices.{Left};
 
 use std::env::{Env, FillError};
 use std::fmt::Write as _;
 use std::fs::File;
+use std::io;
 use std::io::{ErrorKind, Read, Stdin, Write};
 use std::process::ExitCode;
-use std::{fmt, io};
+use text::Line;
 
 // A name of any length that the system takes has room in so many bytes.
 pub const NAME_BYTES: usize = 4096;
 
-// The exit status: as hoped; the input was judged and found wanting; trouble.
+// The exit status, a number of the system's: as hoped; the input was judged and found wanting; trouble.
 pub const AS_HOPED: u8 = 0;
 
 pub const WANTING: u8 = 1;
@@ -38,245 +39,242 @@ const COMPLAINT_BYTES: usize = 16896;
 
 // Through this a program is heard: what it says, and the status that it ends with.
 #[derive(Drop)]
-pub struct Voice {
+pub struct Voice<'a> {
     pub rt: HostRuntime,
+    // what its complaints begin with
+    pub program: &'a [u8],
     // nothing is heard any more
     pub silent: bool,
     pub status: u8,
 }
 
-#[derive(Clone, Copy)]
-pub enum Argument {
-    // so many bytes at the start of the room
-    Given(usize),
-    Missing,
-    TooLong,
-}
-
-// What the players are asked.
-#[derive(Clone, Copy)]
-pub struct Options {
-    // an option that is not known, or a second file
-    pub wrong: bool,
-    pub explain: bool,
-    pub quiet: bool,
-    // which argument names the file, 0 for none
-    pub file: usize,
-}
-
-// A program that does not say how it ended is in trouble.
-pub fn heard(rt: HostRuntime) -> Voice
-    ensures status { result.status ≡ 2 }
-    ensures silence { result.silent ≡ false }
-{
-    Voice {
-        rt: rt,
-        silent: false,
-        status: TROUBLE,
-    }
-}
-
-// The last that a program does. Where nothing is heard any more nothing happens.
-pub fn end(voice: &mut Voice, status: u8)
-    ensures status { voice.new.status ≡ cond voice.old.silent voice.old.status status }
-    ensures same_silence { voice.new.silent ≡ voice.old.silent }
-{
-    if !voice.silent {
-        voice.status = status;
-    }
-}
-
-// What `main` answers.
-pub fn exit_code(voice: &Voice) -> ExitCode
-    ensures { exit_status result ≡ voice.now.status }
-{
-    ExitCode::from(voice.status)
-}
-
-// Nothing is heard of the program any more, whatever it does: no text, no complaint, no status.
-pub fn fall_silent(voice: &mut Voice)
-    ensures silence { voice.new.silent ≡ true }
-    ensures same_status { voice.new.status ≡ voice.old.status }
-{
-    voice.silent = true;
-}
-
-// Nobody reads any more: the program ends as by the signal PIPE, without a word.
-fn leave(voice: &mut Voice)
-    ensures silence { voice.new.silent ≡ true }
-    ensures status { voice.new.status ≡ cond voice.old.silent voice.old.status 141 }
-{
-    end(voice, UNREAD);
-    fall_silent(voice);
-}
-
-// A complaint that can't go out is lost.
-fn say_of_trouble(voice: &mut Voice, line: &[u8])
-    ensures lasting { voice.old.silent ≡ true → voice.new.silent ≡ true }
-    ensures status { voice.new.status ≡ status_left voice.old.silent voice.old.status voice.new.silent voice.old.status }
-{
-    if voice.silent {
-        return;
-    }
-    match voice.rt.stderr().write_all(line) {
-        Ok(()) => {}
-        Err(error) => {
-            if error.kind() == ErrorKind::BrokenPipe {
-                leave(voice);
-            }
+impl<'a> Voice<'a> {
+    // A program that does not say how it ended is in trouble.
+    pub fn new(rt: HostRuntime, program: &'a [u8]) -> Voice<'a>
+        ensures status { result.status ≡ 2 }
+        ensures silence { result.silent ≡ false }
+        ensures program { result.program.now ≡ program.now }
+    {
+        Voice {
+            rt,
+            program,
+            silent: false,
+            status: TROUBLE,
         }
     }
-}
 
-// A program that stops for trouble says why in one line.
-pub fn trouble(voice: &mut Voice, line: &[u8])
-    ensures lasting { voice.old.silent ≡ true → voice.new.silent ≡ true }
-    ensures status { voice.new.status ≡ status_left voice.old.silent voice.old.status voice.new.silent 2 }
-{
-    say_of_trouble(voice, line);
-    end(voice, TROUBLE);
-}
+    // The last that a program does. Where nothing is heard any more nothing happens.
+    pub fn end(&mut self, status: u8)
+        ensures status { self.new.status ≡ cond self.old.silent self.old.status status }
+        ensures same_silence { self.new.silent ≡ self.old.silent }
+        ensures same_program { self.new.program.now ≡ self.old.program.now }
+    {
+        if !self.silent {
+            self.status = status;
+        }
+    }
 
-// What a complaint begins with: the program, and what it is about.
-fn put_subject(text: &mut [u8], program: &[u8], name: &[u8]) -> usize
-    ensures { result ≤ length text.new }
-{
-    let colon = text::put_all(text, program, 0);
-    let start = text::put_all(text, b": ", colon);
-    let end_of_name = text::put_plain(text, name, start);
-    ground::least(end_of_name, text.len())
+    // What `main` answers.
+    pub fn exit_code(&self) -> ExitCode
+        ensures { exit_status result ≡ self.now.status }
+    {
+        ExitCode::from(self.status)
+    }
+
+    // Nothing is heard of the program any more, whatever it does: no text, no complaint, no status.
+    pub fn fall_silent(&mut self)
+        ensures silence { self.new.silent ≡ true }
+        ensures same_status { self.new.status ≡ self.old.status }
+        ensures same_program { self.new.program.now ≡ self.old.program.now }
+    {
+        self.silent = true;
+    }
+
+    // Nobody reads any more: the program ends as by the signal PIPE, without a word.
+    fn leave(&mut self)
+        ensures silence { self.new.silent ≡ true }
+        ensures status { self.new.status ≡ cond self.old.silent self.old.status 141 }
+        ensures same_program { self.new.program.now ≡ self.old.program.now }
+    {
+        self.end(UNREAD);
+        self.fall_silent();
+    }
+
+    // A complaint that can't go out is lost.
+    fn say_of_trouble(&mut self, line: &[u8])
+        ensures { Left self.old self.new self.old.status }
+    {
+        if self.silent {
+            return;
+        }
+        if let Err(error) = self.rt.stderr().write_all(line)
+            && error.kind() == ErrorKind::BrokenPipe
+        {
+            self.leave();
+        }
+    }
+
+    // A program that stops for trouble says why in one line.
+    pub fn trouble(&mut self, line: &[u8])
+        ensures { Left self.old self.new 2 }
+    {
+        self.say_of_trouble(line);
+        self.end(TROUBLE);
+    }
+
+    // What a complaint begins with: the program, and what it is about.
+    fn put_subject(&self, line: &mut Line, name: &[u8]) {
+        line.put_all(self.program);
+        line.put_all(b": ");
+        line.put_plain(name);
+    }
+
+    // What the system refused, in one line with the system's reason.
+    pub fn complain(&mut self, name: &[u8], error: io::Error)
+        ensures { Left self.old self.new self.old.status }
+    {
+        let mut room = [0; COMPLAINT_BYTES];
+        let mut line = Line::new(&mut room);
+        self.put_subject(&mut line, name);
+        put_reason(&mut line, error);
+        self.say_of_trouble(line.said());
+    }
+
+    // A program that stops for what the system refused.
+    pub fn trouble_with(&mut self, name: &[u8], error: io::Error)
+        ensures { Left self.old self.new 2 }
+    {
+        self.complain(name, error);
+        self.end(TROUBLE);
+    }
+
+    // The same where the program has a reason of its own, with which the line ends.
+    pub fn trouble_for(&mut self, name: &[u8], reason: &[u8])
+        ensures { Left self.old self.new 2 }
+    {
+        let mut room = [0; COMPLAINT_BYTES];
+        let mut line = Line::new(&mut room);
+        self.put_subject(&mut line, name);
+        self.say_of_trouble(line.said());
+        self.trouble(reason);
+    }
+
+    // Whether all of a text went out: else the program has to stop, and why has been said.
+    pub fn print(&mut self, text: &[u8]) -> bool
+        ensures left { Left self.old self.new (cond result self.old.status 2) }
+        ensures printed { result ≡ true → self.new.silent ≡ false }
+    {
+        if self.silent {
+            return false;
+        }
+        match self.rt.stdout().write_all(text) {
+            Ok(()) => return true,
+            Err(error) if error.kind() == ErrorKind::BrokenPipe => self.leave(),
+            Err(error) => self.trouble_with(b"standard output", error),
+        }
+        false
+    }
+
+    // Whether a program that takes no arguments was given none.
+    pub fn is_alone(&mut self, usage: &[u8]) -> bool
+        ensures left { Left self.old self.new (cond result self.old.status 2) }
+        ensures alone { result ≡ true → self.new.silent ≡ self.old.silent }
+    {
+        let alone = !is_given(self.rt, 1);
+        if !alone {
+            self.trouble(usage);
+        }
+        alone
+    }
+
+    // The system refused to go on with the input.
+    pub fn unreadable(&mut self, input: &Input, room: &[u8], error: io::Error)
+        ensures { Left self.old self.new 2 }
+    {
+        let n = input.name.min(room.len());
+        self.trouble_with(&room[..n], error);
+    }
 }
 
 const REASON_BYTES: usize = 256;
 
-// A reason in words, as it is written.
-#[derive(Drop)]
-struct Words {
-    text: [u8; REASON_BYTES],
-    length: usize,
-}
-
-impl fmt::Write for Words {
-    fn write_str(&mut self, part: &str) -> fmt::Result {
-        self.length = text::put_all(&mut self.text, part.as_bytes(), self.length);
-        Ok(())
-    }
-}
-
 // std puts the error's number behind the system's reason, in parentheses.
-fn without_number(reason: &[u8]) -> usize
-    ensures { result ≤ length reason.now }
-{
+fn without_number(reason: &[u8]) -> &[u8] {
     match reason.iter().rposition(|b| *b == b'(') {
-        Some(at) => { if 0 < at { at - 1 } else { 0 } }
-        None => reason.len(),
+        Some(at) => &reason[..at.saturating_sub(1)],
+        None => reason,
     }
 }
 
 // The reason as the system gives it goes behind a subject.
-fn put_reason(text: &mut [u8], at: usize, error: io::Error) -> usize
-    ensures { result ≤ length text.new }
-{
-    let mut words = Words {
-        text: [0; REASON_BYTES],
-        length: 0,
-    };
+fn put_reason(line: &mut Line, error: io::Error) {
+    let mut room = [0; REASON_BYTES];
+    let mut words = Line::new(&mut room);
     let _ = write!(words, "{error}");
-    let most = ground::least(words.length, REASON_BYTES);
-    let n = if error.raw_os_error().is_some() {
-        without_number(&words.text[..most])
-    } else {
-        most
-    };
-    let start = text::put_all(text, b": ", at);
-    let end_of_reason = text::put_all(text, &words.text[..n], start);
-    let whole = text::put(text, end_of_reason, b'\n');
-    ground::least(whole, text.len())
-}
-
-// What the system refused, in one line with the system's reason.
-pub fn complain(voice: &mut Voice, program: &[u8], name: &[u8], error: io::Error)
-    ensures lasting { voice.old.silent ≡ true → voice.new.silent ≡ true }
-    ensures status { voice.new.status ≡ status_left voice.old.silent voice.old.status voice.new.silent voice.old.status }
-{
-    let mut text = [0u8; COMPLAINT_BYTES];
-    let subject = put_subject(&mut text, program, name);
-    let n = put_reason(&mut text, subject, error);
-    say_of_trouble(voice, &text[..n]);
-}
-
-// A program that stops for what the system refused.
-pub fn trouble_with(voice: &mut Voice, program: &[u8], name: &[u8], error: io::Error)
-    ensures lasting { voice.old.silent ≡ true → voice.new.silent ≡ true }
-    ensures status { voice.new.status ≡ status_left voice.old.silent voice.old.status voice.new.silent 2 }
-{
-    complain(voice, program, name, error);
-    end(voice, TROUBLE);
-}
-
-// The same where the program has a reason of its own, with which the line ends.
-pub fn trouble_for(voice: &mut Voice, program: &[u8], name: &[u8], reason: &[u8])
-    ensures lasting { voice.old.silent ≡ true → voice.new.silent ≡ true }
-    ensures status { voice.new.status ≡ status_left voice.old.silent voice.old.status voice.new.silent 2 }
-{
-    let mut text = [0u8; COMPLAINT_BYTES];
-    let n = put_subject(&mut text, program, name);
-    say_of_trouble(voice, &text[..n]);
-    trouble(voice, reason);
-}
-
-// All of a text goes out, or the program has to stop.
-pub fn print(voice: &mut Voice, program: &[u8], text: &[u8]) -> bool
-    ensures lasting { voice.old.silent ≡ true → voice.new.silent ≡ true }
-    ensures status { voice.new.status ≡ status_left voice.old.silent voice.old.status voice.new.silent (cond result voice.old.status 2) }
-    ensures printed { result ≡ true → voice.new.silent ≡ false }
-{
-    if voice.silent {
-        return false;
-    }
-    match voice.rt.stdout().write_all(text) {
-        Ok(()) => true,
-        Err(error) => {
-            if error.kind() == ErrorKind::BrokenPipe {
-                leave(voice);
-            } else {
-                trouble_with(voice, program, b"standard output", error);
-            }
-            false
-        }
-    }
+    let said = words.said();
+    let numbered = error.raw_os_error().is_some();
+    line.put_all(b": ");
+    line.put_all(if numbered { without_number(said) } else { said });
+    line.put(b'\n');
 }
 
 // Whether the program was given an argument of that number.
 pub fn is_given(rt: HostRuntime, i: usize) -> bool {
-    let mut room = [0u8; 1];
-    match given(rt, i, &mut room) {
-        Argument::Missing => false,
-        _ => true,
-    }
+    !matches!(given(rt, i, &mut [0; 1]), Err(FillError::NotPresent))
 }
 
-// Whether a program that takes no arguments was given none.
-pub fn is_alone(voice: &mut Voice, usage: &[u8]) -> bool
-    ensures lasting { voice.old.silent ≡ true → voice.new.silent ≡ true }
-    ensures status { voice.new.status ≡ status_left voice.old.silent voice.old.status voice.new.silent (cond result voice.old.status 2) }
-    ensures alone { result ≡ true → voice.new.silent ≡ voice.old.silent }
-{
-    let alone = !is_given(voice.rt, 1);
-    if !alone {
-        trouble(voice, usage);
-    }
-    alone
-}
-
-// Argument 0 is the program's own name.
-pub fn given(rt: HostRuntime, i: usize, room: &mut [u8]) -> Argument
+// Argument 0 is the program's own name. One that is given stands at the start of the room.
+pub fn given(rt: HostRuntime, i: usize, room: &mut [u8]) -> Result<usize, FillError>
     ensures { Within result (length room.new) }
 {
-    match rt.arg(i, room) {
-        Ok(n) => Argument::Given(n),
-        Err(FillError::NotPresent) => Argument::Missing,
-        Err(FillError::TooLong) => Argument::TooLong,
+    rt.arg(i, room)
+}
+
+// What the players are asked.
+#[derive(Clone, Copy, Default)]
+pub struct Options {
+    // an option that is not known, or a second file: said once all are read
+    pub wrong: bool,
+    pub explain: bool,
+    pub quiet: bool,
+    // which argument names the file
+    pub file: Option<usize>,
+}
+
+impl Options {
+    fn with_file(self, i: usize) -> Options
+        ensures { result ≡ with_file self i }
+    {
+        Options {
+            wrong: self.wrong | self.file.is_some(),
+            file: Some(i),
+            ..self
+        }
+    }
+
+    #[tactic(auto, unfolding(crate::specs::Arguments::with_option))]
+    fn with_option(self, word: &[u8]) -> Options
+        ensures { result ≡ with_option self word.now }
+    {
+        let explain = word == b"--explain".as_slice();
+        let quiet = word == b"--quiet".as_slice();
+        Options {
+            wrong: self.wrong | !(explain | quiet),
+            explain: self.explain | explain,
+            quiet: self.quiet | quiet,
+            ..self
+        }
+    }
+
+    #[tactic(auto, unfolding(crate::specs::Arguments::with_word))]
+    fn with_word(self, i: usize, word: &[u8]) -> Options
+        ensures { result ≡ with_word self i word.now }
+    {
+        if is_option(word) {
+            self.with_option(word)
+        } else {
+            self.with_file(i)
+        }
     }
 }
 
@@ -284,67 +282,21 @@ pub fn given(rt: HostRuntime, i: usize, room: &mut [u8]) -> Argument
 fn is_option(word: &[u8]) -> bool
     ensures { result ≡ option_b word.now }
 {
-    (2 <= word.len()) & (ground::byte(word, 0) == b'-')
+    matches!(word, [b'-', _, ..])
 }
 
-fn with_file(options: Options, i: usize) -> Options
-    ensures { result ≡ with_file options i }
-{
-    Options {
-        wrong: options.wrong | (options.file != 0),
-        explain: options.explain,
-        quiet: options.quiet,
-        file: i,
-    }
-}
-
-fn with_option(options: Options, word: &[u8]) -> Options
-    ensures { result ≡ with_option options word.now }
-{
-    let explain = word == b"--explain".as_slice();
-    let quiet = word == b"--quiet".as_slice();
-    Options {
-        wrong: options.wrong | !(explain | quiet),
-        explain: options.explain | explain,
-        quiet: options.quiet | quiet,
-        file: options.file,
-    }
-}
-
-fn with_word(options: Options, i: usize, word: &[u8]) -> Options
-    ensures { result ≡ with_word options i word.now }
-{
-    if is_option(word) {
-        with_option(options, word)
-    } else {
-        with_file(options, i)
-    }
-}
-
-// Of an argument that is too long the room has the first bytes.
-fn with_argument(rt: HostRuntime, options: Options, i: usize, room: &mut [u8]) -> Options {
-    let told = given(rt, i, room);
-    match told {
-        Argument::Given(n) => with_word(options, i, &room[..n]),
-        Argument::Missing => options,
-        Argument::TooLong => with_word(options, i, room),
-    }
-}
-
-// What the arguments of a player say.
+// What the arguments of a player say. Of an argument that is too long the room has the first bytes.
 pub fn asked(rt: HostRuntime) -> Options {
-    let mut room = [0u8; NAME_BYTES];
-    let mut options = Options {
-        wrong: false,
-        explain: false,
-        quiet: false,
-        file: 0,
-    };
+    let mut room = [0; NAME_BYTES];
+    let mut options = Options::default();
+    // by number: std's iterator over them asks for an allocator, and there is no heap
     for i in 1..usize::MAX {
-        if !is_given(rt, i) {
-            break;
-        }
-        options = with_argument(rt, options, i, &mut room);
+        let n = match given(rt, i, &mut room) {
+            Ok(n) => n,
+            Err(FillError::TooLong) => NAME_BYTES,
+            Err(FillError::NotPresent) => break,
+        };
+        options = options.with_word(i, &room[..n]);
     }
     options
 }
@@ -352,65 +304,40 @@ pub fn asked(rt: HostRuntime) -> Options {
 // Where bytes are read.
 #[derive(Drop)]
 pub enum Source {
-    // nowhere: it could not be opened, which has been said
-    Nowhere,
     Standard(Stdin),
     Named(File),
 }
 
-// What is read, and its name at the start of a room.
+// What is read.
 #[derive(Drop)]
 pub struct Input {
     pub source: Source,
+    // how long its name is, at the start of the caller's room
     pub name: usize,
 }
 
 impl Read for Input {
     fn read(&mut self, room: &mut [u8]) -> io::Result<usize> {
         match &mut self.source {
-            Source::Nowhere => Ok(0),
             Source::Standard(stdin) => stdin.read(room),
             Source::Named(file) => file.read(room),
         }
     }
 }
 
-pub fn is_open(input: &Input) -> bool
-    ensures { result ≡ open_b input.now.source }
-{
-    match input.source {
-        Source::Nowhere => false,
-        _ => true,
-    }
-}
-
-// What a read told, as one number: how many bytes came, or below 0 where it failed.
-pub fn got(told: &io::Result<usize>) -> isize
-    ensures came { OnOk told.now (pos 0 ≤ℤ result) }
-    ensures failed { OnErr told.now (result ≡ negsuc 0) }
-{
-    match told {
-        Ok(n) => isize::try_from(*n).unwrap_or(isize::MAX),
-        Err(_) => -1,
-    }
-}
-
 fn standard(rt: HostRuntime, room: &mut [u8]) -> Input
-    ensures name { result.name ≤ length room.new }
-    ensures source { open_b result.source ≡ true }
+    ensures { result.name ≤ length room.new }
 {
     Input {
         source: Source::Standard(rt.stdin()),
-        name: text::put_all(room, b"standard input", 0),
+        name: ground::fill(b"standard input", room),
     }
 }
 
 // The file of that name. std takes a name that is text in UTF-8, and no other.
 pub fn open_file(rt: HostRuntime, name: &[u8]) -> io::Result<File> {
-    match str::from_utf8(name) {
-        Ok(path) => File::open(&rt, path),
-        Err(_) => Err(io::Error::from_raw_os_error(NO_TEXT)),
-    }
+    let path = str::from_utf8(name).map_err(|_| io::Error::from_raw_os_error(NO_TEXT))?;
+    File::open(&rt, path)
 }
 
 // Why an argument that is too long can be no file's name.
@@ -418,59 +345,37 @@ pub fn too_long() -> io::Error {
     io::Error::from_raw_os_error(TOO_LONG)
 }
 
-fn open_named(voice: &mut Voice, program: &[u8], name: &[u8]) -> Input
-    ensures name { result.name ≡ length name.now }
-    ensures lasting { voice.old.silent ≡ true → voice.new.silent ≡ true }
-    ensures status { voice.new.status ≡ status_left voice.old.silent voice.old.status voice.new.silent (cond (open_b result.source) voice.old.status 2) }
+fn open_named(voice: &mut Voice, name: &[u8]) -> Option<Input>
+    ensures name { IfSome result (λ input. input.name ≡ length name.now) }
+    ensures left { Left voice.old voice.new (cond (open_b result) voice.old.status 2) }
 {
     match open_file(voice.rt, name) {
-        Ok(file) => Input {
+        Ok(file) => Some(Input {
             source: Source::Named(file),
             name: name.len(),
-        },
+        }),
         Err(error) => {
-            trouble_with(voice, program, name, error);
-            Input {
-                source: Source::Nowhere,
-                name: name.len(),
-            }
+            voice.trouble_with(name, error);
+            None
         }
     }
 }
 
-// The file that an argument names; standard input for `-` and for argument 0.
-pub fn open(voice: &mut Voice, program: &[u8], file: usize, room: &mut [u8]) -> Input
-    ensures name { result.name ≤ length room.new }
-    ensures lasting { voice.old.silent ≡ true → voice.new.silent ≡ true }
-    ensures status { voice.new.status ≡ status_left voice.old.silent voice.old.status voice.new.silent (cond (open_b result.source) voice.old.status 2) }
+// The file that an argument names, standard input for `-` and where none does; none where it could not be opened, which has been said.
+pub fn open(voice: &mut Voice, file: Option<usize>, room: &mut [u8]) -> Option<Input>
+    ensures name { IfSome result (λ input. input.name ≤ length room.new) }
+    ensures left { Left voice.old voice.new (cond (open_b result) voice.old.status 2) }
 {
-    if file == 0 {
-        return standard(voice.rt, room);
-    }
-    let told = given(voice.rt, file, room);
+    let told = match file {
+        Some(i) => given(voice.rt, i, room),
+        None => return Some(standard(voice.rt, room)),
+    };
     match told {
-        Argument::Given(n) => {
-            if &room[..n] == b"-".as_slice() {
-                standard(voice.rt, room)
-            } else {
-                open_named(voice, program, &room[..n])
-            }
-        }
-        _ => {
-            trouble_with(voice, program, b"the file's name", too_long());
-            Input {
-                source: Source::Nowhere,
-                name: 0,
-            }
+        Ok(n) if &room[..n] == b"-".as_slice() => Some(standard(voice.rt, room)),
+        Ok(n) => open_named(voice, &room[..n]),
+        Err(_) => {
+            voice.trouble_with(b"the file's name", too_long());
+            None
         }
     }
-}
-
-// The system refused to go on with the input.
-pub fn unreadable(voice: &mut Voice, program: &[u8], input: &Input, room: &[u8], error: io::Error)
-    ensures lasting { voice.old.silent ≡ true → voice.new.silent ≡ true }
-    ensures status { voice.new.status ≡ status_left voice.old.silent voice.old.status voice.new.silent 2 }
-{
-    let n = ground::least(input.name, room.len());
-    trouble_with(voice, program, &room[..n], error);
 }
