@@ -7,8 +7,8 @@ use Rattle.disc.specs.Formats.{no_format, formats, format_of, buffer_bytes, bloc
 use Rattle.ground.proofs.Tables.{always}
 use Rattle.ground.proofs.Parts.{flatten_append}
 use Rattle.disc.proofs.Discs.{run_add, block_fits}
-use Rattle.text.specs.Ink.{ink, put_all}
-use Rattle.text.proofs.Putting.{put_append, put_then}
+use Rattle.text.specs.Ink.{Inked, put_on}
+use Rattle.text.proofs.Putting.{put_on_append, put_on_then}
 use Rattle.listing.specs.Differing.{among, difference_of, difference_at, differs_b, differing_from}
 use Rattle.listing.specs.Listing.{line_of, lines_of}
 use Rattle.listing.specs.Turns.{Listed, listed, with_block, listed_of, line_bytes, blocks_at_once, end_of, turned, turn_of}
@@ -47,14 +47,14 @@ module _ (number : ℕ) (from : BlockAddress) (first second : List ℕ) where
       rw (length-map (among differs 0 n) told) (among_few differs 0 n)
 
 -- the text goes on with the block's line
-pub listed_more : (ds : List Difference) (text : List ℕ) (d : Difference) → with_block (listed_of ds text) d ≡ listed_of (ds ++ if_differs d) text
+pub listed_more : (ds : List Difference) (text : Inked) (d : Difference) → with_block (listed_of ds text) d ≡ listed_of (ds ++ if_differs d) text
 unfolding lines_of flatten
 listed_more ds text d = here (differs_b d)
   where
     here : (b : Bool)
-        → cond b (record { count = length ds + 1; text = put_all (put_all (ink 0 text) (lines_of ds)) (line_of d) }) (listed_of ds text)
+        → cond b (record { count = length ds + 1; text = put_on (put_on text (lines_of ds)) (line_of d) }) (listed_of ds text)
         ≡ listed_of (ds ++ cond b (d ∷ []) []) text
-    here true = rw (length-append ds (d ∷ []), lines_append ds (d ∷ []), append-nil (line_of d), put_append (ink 0 text) (lines_of ds) (line_of d))
+    here true = rw (length-append ds (d ∷ []), lines_append ds (d ∷ []), append-nil (line_of d), put_on_append text (lines_of ds) (line_of d))
     here false = rw (append-nil ds)
 
 -- a block of a run lies within it
@@ -76,7 +76,7 @@ equally_many number at size first second block h =
     )
 
 -- one block more of two parts is compared and listed
-pub listed_on : (number : ℕ) (from : BlockAddress) (first second text : List ℕ) (k at size : ℕ) (before now : Listed) (d : Difference)
+pub listed_on : (number : ℕ) (from : BlockAddress) (first second : List ℕ) (text : Inked) (k at size : ℕ) (before now : Listed) (d : Difference)
     → at ≡ run_bytes number k → size ≡ block_bytes number
     → d ≡ difference_of (record { 0 = from.0 + k }) (take (at + size - at) (drop at first)) (take (at + size - at) (drop at second))
     → before ≡ listed_of (differing_from number from k first second) text → now ≡ with_block before d
@@ -111,17 +111,17 @@ at_once number from first second text =
     )
 
 -- a turn, as its functions promise it
-pub turns : (number : ℕ) (run : Comparison) (first second text listed_text last_text : List ℕ) (n count long total last : ℕ) (format : Format)
-    → n ≡ blocks_at_once number run.block (length first) (length second) (length text)
-    → listed count long listed_text ≡ listed_of (differing_from number run.block n first second) text
+pub turns : (number : ℕ) (run : Comparison) (first second : List ℕ) (text lined ended : Inked) (n count room total : ℕ) (format : Format)
+    → n ≡ blocks_at_once number run.block (length first) (length second) room → room ≡ length text.ink.line - text.ink.at
+    → listed count lined ≡ listed_of (differing_from number run.block n first second) text
     → format ≡ format_of number → total ≡ min (run.total + count) (2 ^ 64 - 1)
-    → ink last last_text ≡ put_all (ink long listed_text) (end_of (leb format.blocks (run.block.0 + n)) total)
-    → turned (record { block = record { 0 = run.block.0 + n }; total = total; over = leb format.blocks (run.block.0 + n); length = last }) last_text
+    → ended ≡ put_on lined (end_of (leb format.blocks (run.block.0 + n)) total)
+    → turned (record { block = record { 0 = run.block.0 + n }; total = total; over = leb format.blocks (run.block.0 + n) }) ended
     ≡ turn_of number run first second text
 unfolding turn_of
-turns number run first second text listed_text last_text n count long total last format blocks told row sum end =
+turns number run first second text lined ended n count room total format blocks left told row sum end =
     let ds = differing_from number run.block n first second in
     let many : count ≡ length ds = ap (λ (l : Listed). l.count) told in
-    let lines : ink long listed_text ≡ put_all (ink 0 text) (lines_of ds) = ap (λ (l : Listed). l.text) told in
-    let put = put_then _ _ _ _ _ lines end in
-    rw (← blocks, ← row, ← many, ← sum, ← put)
+    let lines : lined ≡ put_on text (lines_of ds) = ap (λ (l : Listed). l.text) told in
+    let put = put_on_then _ _ _ _ _ lines end in
+    rw (← left, ← blocks, ← row, ← many, ← sum, ← put)

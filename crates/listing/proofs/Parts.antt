@@ -5,6 +5,7 @@ use Rattle.listing.specs.declared.{Difference.Difference, Comparison.Comparison}
 use Rattle.disc.specs.declared.{BlockAddress.BlockAddress}
 use Rattle.disc.specs.Formats.{format_of, block_bytes, run_bytes, disc_bytes, place_of}
 use Rattle.disc.proofs.Discs.{block_fits, few_blocks, run_add}
+use Rattle.text.specs.Ink.{Inked}
 use Rattle.window.proofs.Holding.{drop_taken}
 use Rattle.listing.specs.Differing.{among, difference_at, block_at, differs_b, differing_from}
 use Rattle.listing.specs.Turns.{start_of, due_of, line_bytes, blocks_at_once, Turned, turned, turn_of}
@@ -43,12 +44,7 @@ some_block number from n text h room line =
 abbrev pub Before : ℕ → Comparison → Type 0
 Before number run = run.over ≡ false → run.block.0 < (format_of number).blocks
 
-pub start_before : (number : ℕ) (run : Comparison) → run ≡ start_of number → Before number run
-start_before number run e on =
-    let some = eqb-false (format_of number).blocks 0 (sym (ap (λ (r : Comparison). r.over) e) ∙ on) in
-    rw (ap (λ (r : Comparison). r.block.0) e) (omega (arith, some))
-
-module _ (number : ℕ) (run r : Comparison) (first second text after : List ℕ) (e : turned r after ≡ turn_of number run first second text) where
+module _ (number : ℕ) (run r : Comparison) (first second : List ℕ) (text after : Inked) (e : turned r after ≡ turn_of number run first second text) where
   pub turn_before : Before number r
   unfolding turn_of
   turn_before on =
@@ -56,11 +52,11 @@ module _ (number : ℕ) (run r : Comparison) (first second text after : List ℕ
       rw (ap (λ (t : Turned). t.run.block.0) e) (leb-false (format_of number).blocks _ over)
 
   -- parts that hold all that is due bring it nearer to its end
-  pub turn_nearer : (space n : ℕ) → block_bytes number ≤ space → line_bytes ≤ length text → n ≡ due_of number run.block space → length first ≡ n
+  pub turn_nearer : (space n : ℕ) → block_bytes number ≤ space → line_bytes ≤ length text.ink.line - text.ink.at → n ≡ due_of number run.block space → length first ≡ n
       → length second ≡ n → run.block.0 < (format_of number).blocks → (format_of number).blocks - r.block.0 < (format_of number).blocks - run.block.0
   unfolding turn_of
   turn_nearer space n room line due one two h =
-      let some = some_block number run.block n (length text) h (rw due (block_due number run.block space h room)) line in
+      let some = some_block number run.block n (length text.ink.line - text.ink.at) h (rw due (block_due number run.block space h room)) line in
       let next = rw (one, two) at (ap (λ (t : Turned). t.run.block.0) e) in
       omega (arith, h, some, next)
 

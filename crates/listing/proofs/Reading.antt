@@ -1,5 +1,5 @@
 -- In whatever parts two images come, their listing is printed. Assumes nothing.
-use Rattle.std.specs.Prelude.{◌≡◌, ◌⊎◌, ◌&&◌, ◌++◌, ◌+◌, ◌-◌, ◌*◌, ◌^◌, ◌<◌, ◌≤◌}
+use Rattle.std.specs.Prelude.{◌≡◌, ◌⊎◌, ◌&&◌, ◌++◌, ◌+◌, ◌-◌, ◌*◌, ◌^◌, ◌<◌, ◌≤◌, Option, Some, None}
 use Rattle.ground.specs.Kit.{refl, sym, ap, ◌∙◌, ⊎_elim, Bool, true, false, true≢false, cond, not, and-false, List, [], append_assoc, append-nil, flatten, ℕ, zero, suc, min, arith, add_assoc, add-zero, zero-add, sub-zero, zero-mul, eqb, leb, eqb-true, eq-eqb, ne_eqb, not-false, lt-leb, leb-true, leb-false, ltb, ltb-true, ltb-false, length, take, drop, length-append, length-drop, length-take-le, take_all, drop-drop}
 use Rattle.listing.specs.declared.{Difference.Difference, Comparison.Comparison}
 use Rattle.disc.specs.declared.{BlockAddress.BlockAddress, BytePlace.BytePlace}
@@ -8,10 +8,10 @@ use Rattle.disc.specs.Formats.{no_format, discs, format_of, block_bytes, run_byt
 use Rattle.ground.proofs.Tables.{at_row}
 use Rattle.ground.proofs.Truth.{neither}
 use Rattle.disc.proofs.Discs.{run_add, block_fits, few_blocks}
-use Rattle.text.specs.Ink.{Ink, ink, put_all}
+use Rattle.text.specs.Ink.{Ink, ink, begun, put_all}
 use Rattle.window.proofs.Filling.{any_filling}
 use Rattle.listing.specs.Differing.{differing_from, differing}
-use Rattle.listing.specs.Listing.{lines_of, total_line, listing, outside_b, disc_of, refusal_of}
+use Rattle.listing.specs.Listing.{lines_of, total_line, listing, outside_b, disc_of, refusal_of, unless_refused}
 use Rattle.listing.specs.Turns.{start_of, due_of, line_bytes, blocks_at_once, end_of, Turned, turned, turn_of}
 use Rattle.listing.specs.Theorems.{Images}
 use Rattle.listing.specs.Reading.{Ways, filled_of, comparing, Roomy, AnyReading, ComesShort, AnyRun}
@@ -131,7 +131,7 @@ module _ (number : ℕ) (first second : List ℕ) (one two : Ways) (last : ℕ �
     i = put_all (ink 0 text) said
 
     abbrev t : Turned
-    t = turned (record { block = next; total = total; over = over; length = i.at }) i.line
+    t = turned (record { block = next; total = total; over = over }) (record { buffer = 0; ink = i })
 
     whole : (m ≤ blocks - from.0) × (run_bytes number m ≤ min due due) × (m * line_bytes ≤ length text)
     whole = at_once number from due due (length text)
@@ -155,12 +155,12 @@ module _ (number : ℕ) (first second : List ℕ) (one two : Ways) (last : ℕ �
         rw (part_after_part number from m k (left from first) (left from second), drop-drop past at first, drop-drop past at second, run_add number from.0 m)
 
     module _ (a : due ≤ length (left from first)) (b : due ≤ length (left from second)) where
-      one_turn : turn_of number run (take due (left from first)) (take due (left from second)) text ≡ t
+      one_turn : turn_of number run (take due (left from first)) (take due (left from second)) (begun 0 0 text) ≡ t
       unfolding turn_of
       one_turn =
           let in-part = blocks_in_lem number from m due (left from first) (left from second) (omega (arith, whole.1)) in
           let small : min total (2 ^ 64 - 1) ≡ total = omega (arith, few-told, whole.0, g.few, g.there, few_blocks number) in
-          rw (length-take-le due (left from first) a, length-take-le due (left from second) b, in-part, small)
+          rw (sub-zero (length text), length-take-le due (left from first) a, length-take-le due (left from second) b, in-part, small)
 
       -- the rooms after the turn
       abbrev one-room : List ℕ
@@ -174,7 +174,7 @@ module _ (number : ℕ) (first second : List ℕ) (one two : Ways) (last : ℕ �
       same_long image space e f =
           omega (arith, length-append (take due (left from image)) (drop due space), length-take-le due (left from image) e, length-drop due space, f)
 
-      goes_on : Going t.run one-room two-room t.text
+      goes_on : Going t.run one-room two-room t.text.ink.line
       goes_on =
           let long = same_long first room a few-due in
           record {
@@ -189,7 +189,7 @@ module _ (number : ℕ) (first second : List ℕ) (one two : Ways) (last : ℕ �
                 };
           }
 
-      one-part : (n : ℕ) → turns (suc n) run room space text ≡ said ++ turns n t.run one-room two-room t.text
+      one-part : (n : ℕ) → turns (suc n) run room space text ≡ said ++ turns n t.run one-room two-room t.text.ink.line
       one-part n =
           let place = place_of number from in
           let upto : min due (length (left from first)) ≡ due = omega (arith, a) in
@@ -250,7 +250,7 @@ module _ (number : ℕ) (first second : List ℕ) (one two : Ways) (last : ℕ �
             let all : blocks - run.block.0 ≡ m run room space text g h + (blocks - later.block.0) = omega (arith, (whole run room space text g h).0) in
             one-part run room space text g h a b n
             ∙ ap (λ (l : List ℕ). said run room space text g h ++ l)
-            (on later (one-room run room space text g h a b) (two-room run room space text g h a b) (t run room space text g h).text (goes_on run room space text g h a b)
+            (on later (one-room run room space text g h a b) (two-room run room space text g h a b) (t run room space text g h).text.ink.line (goes_on run room space text g h a b)
             (omega (arith, few, some run room space text g h, h)))
             ∙ joined later.over (ds run room space text g h) (rest later.block) run.total (λ end. none_left later (leb-true blocks later.block.0 end))
             ∙ rw (all, split run room space text g h (blocks - later.block.0), g.over, e)
@@ -330,7 +330,7 @@ module _ (number : ℕ) (first second : List ℕ) (one two : Ways) (last : ℕ �
               let later = t run room space text g h in
               let before = ds run room space text g h in
               let long = same_long run room space text g h a b first room a (few-due run room space text g h) in
-              let (more, low, high, lines) = on later.run (one-room run room space text g h a b) (two-room run room space text g h a b) later.text
+              let (more, low, high, lines) = on later.run (one-room run room space text g h a b) (two-room run room space text g h a b) later.text.ink.line
               (goes_on run room space text g h a b) (leb-false blocks later.run.block.0 e)
               (omega (arith, turns-left, some run room space text g h, h)) (rw (run_add number from k) fits) in
               let behind = differing_from number later.run.block more (left later.run.block first) (left later.run.block second) in (
@@ -409,7 +409,7 @@ no_fault false true two e = absurd (omega (arith, e))
 no_fault false false true e = absurd (omega (arith, e))
 no_fault false false false e = (refl, refl, refl)
 
-no_refusal : (number : ℕ) (first second : List ℕ) → length (refusal_of number (length first) (length second)) ≡ 0
+no_refusal : (number : ℕ) (first second : List ℕ) → length (refusal_of (Some number) (length first) (length second)) ≡ 0
     → (outside_b number ≡ false) × Images number first second
 unfolding refusal_of
 no_refusal number first second e =
@@ -418,19 +418,24 @@ no_refusal number first second e =
     (inside, record { one = right (length first) one; two = right (length second) two })
 
 pub any_run : AnyRun
-any_run last refused said first second one two room space text wide alike long n h = here (eqb (length refusal) 0) refl
+any_run last refused said first second one two room space text wide alike long n h = by_disc (disc_of said)
   where
-    number : ℕ
-    number = disc_of said
+    by_disc : (o : Option ℕ)
+        → unless_refused refused (refusal_of o (length first) (length second))
+        (λ number. comparing number first second one two last n (start_of number) room space text) o
+        ≡ unless_refused refused (refusal_of o (length first) (length second))
+        (λ number. listing number first second ++ last (length (differing number first second))) o
+    by_disc None = refl
+    by_disc (Some number) = here (eqb (length refusal) 0) refl
+      where
+        refusal : List ℕ
+        refusal = refusal_of (Some number) (length first) (length second)
 
-    refusal : List ℕ
-    refusal = refusal_of number (length first) (length second)
-
-    here : (b : Bool) → eqb (length refusal) 0 ≡ b
-        → cond b (comparing number first second one two last n (start_of number) room space text) (refusal ++ refused)
-        ≡ cond b (listing number first second ++ last (length (differing number first second))) (refusal ++ refused)
-    here true e =
-        let (inside, images) = no_refusal number first second (eqb-true (length refusal) 0 e) in
-        let roomy : Roomy number room space text = record { wide = omega (arith, block_fits number, wide); alike = alike; long = long } in
-        any_reading number inside first second images one two last room space text roomy n (omega (arith, few_blocks number, h))
-    here false e = refl
+        here : (b : Bool) → eqb (length refusal) 0 ≡ b
+            → cond b (comparing number first second one two last n (start_of number) room space text) (refusal ++ refused)
+            ≡ cond b (listing number first second ++ last (length (differing number first second))) (refusal ++ refused)
+        here true e =
+            let (inside, images) = no_refusal number first second (eqb-true (length refusal) 0 e) in
+            let roomy : Roomy number room space text = record { wide = omega (arith, block_fits number, wide); alike = alike; long = long } in
+            any_reading number inside first second images one two last room space text roomy n (omega (arith, few_blocks number, h))
+        here false e = refl

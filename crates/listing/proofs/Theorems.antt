@@ -1,5 +1,5 @@
 -- What is listed is what differs: the statements of `specs/Theorems.antt`. Assumes nothing.
-use Rattle.std.specs.Prelude.{◌≡◌, ◌⊎◌, ◌∷◌, ◌++◌, ◌+◌, ◌*◌, ◌<◌, ◌≤◌}
+use Rattle.std.specs.Prelude.{◌≡◌, ◌⊎◌, ◌∷◌, ◌++◌, ◌+◌, ◌*◌, ◌<◌, ◌≤◌, Some, None}
 use Rattle.ground.specs.Kit.{refl, sym, ap, fun_ext, ext_get_or, subst, ◌∙◌, inl, inr, ⊎_elim, Bool, true, false, not, not-true, not-false, List, [], map, flatten, ℕ, zero, suc, arith, zero-add, zero-mul, suc-mul, eqb, eqb-true, eqb-false, eq-eqb, ne_eqb, lt-ltb, le-ltb, ltb, or-true, length, take, drop, get_or, length-append, length-take, length-drop, length-take-le, take-add, take_all}
 use Rattle.listing.specs.declared.{Difference.Difference}
 use Rattle.disc.specs.declared.{BlockAddress.BlockAddress}
@@ -266,6 +266,7 @@ unfolding refusal_of
 refused =
     record {
       disc = λ number first second out. rw (outside number out);
+      nameless = λ first second. refl;
       one = λ number first second low high wrong. rw (inside number low high, ne_eqb first (disc_bytes number) wrong);
       two = λ number second low high wrong.
           rw (inside number low high, eq-eqb (disc_bytes number) (disc_bytes number) refl, ne_eqb second (disc_bytes number) wrong);
@@ -273,7 +274,7 @@ refused =
     }
 
 texts_named : map disc_of (text "004" ∷ text "" ∷ text "4 " ∷ text " 4" ∷ text "+4" ∷ text "4." ∷ text "18446744073709551620" ∷ [])
-    ≡ 4 ∷ 0 ∷ 0 ∷ 0 ∷ 0 ∷ 0 ∷ 0 ∷ []
+    ≡ Some 4 ∷ None ∷ None ∷ None ∷ None ∷ None ∷ None ∷ []
 unfolding disc_of number_of after with_digit
 texts_named = refl
 

@@ -11,6 +11,10 @@ abbrev pub among : (ℕ → Bool) → ℕ → ℕ → List ℕ
 among test at zero = []
 among test at (suc n) = cond (test at) (at ∷ among test (suc at) n) (among test (suc at) n)
 
+-- two bytes side by side differ
+abbrev pub apart_b : ℕ × ℕ → Bool
+apart_b p = not (eqb p.0 p.1)
+
 -- the places, from 0, at which two blocks of so many bytes differ
 unfoldable pub places_of : ℕ → List ℕ → List ℕ → List ℕ
 places_of size first second = among (λ i. not (eqb (byte_at first i) (byte_at second i))) 0 size

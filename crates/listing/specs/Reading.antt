@@ -4,11 +4,12 @@ use Rattle.ground.specs.Kit.{false, cond, List, [], ℕ, zero, suc, min, eqb, le
 use Rattle.listing.specs.declared.{Comparison.Comparison}
 use Rattle.disc.specs.declared.{BlockAddress.BlockAddress, BytePlace.BytePlace}
 use Rattle.disc.specs.Formats.{format_of, block_bytes, run_bytes, disc_bytes, place_of}
+use Rattle.text.specs.Ink.{begun}
 use Rattle.window.specs.Windows.{Held, held, opened_of}
 use Rattle.window.specs.Loops.{Leaves}
 use Rattle.window.specs.Filling.{filling}
 use Rattle.listing.specs.Differing.{differing, differing_from}
-use Rattle.listing.specs.Listing.{lines_of, listing, outside_b, disc_of, refusal_of, printed_of}
+use Rattle.listing.specs.Listing.{lines_of, listing, outside_b, disc_of, refusal_of, unless_refused, printed_of}
 use Rattle.listing.specs.Turns.{start_of, due_of, line_bytes, turn_of}
 use Rattle.listing.specs.Theorems.{Images}
 
@@ -39,10 +40,11 @@ module _ (number : ℕ) (first second : List ℕ) (one two : Ways) (last : ℕ �
       let due = due_of number run.block (length room) in
       let f = filled_of one n due place first room in
       let s = filled_of two n due place second space in
-      let t = turn_of number run f.room s.room text in
+      -- which buffer the text is lent does not matter
+      let t = turn_of number run f.room s.room (begun 0 0 text) in
       cond run.over (last run.total)
       (cond (eqb f.window.upto due && eqb s.window.upto due)
-      (take t.run.length t.text ++ comparing n t.run (f.room ++ drop due room) (s.room ++ drop due space) t.text)
+      (take t.text.ink.at t.text.ink.line ++ comparing n t.run (f.room ++ drop due room) (s.room ++ drop due space) t.text.ink.line)
       [])
 
 -- there is room for a block of either image, for a line and for the last line
@@ -68,9 +70,8 @@ ComesShort = (number : ℕ) → outside_b number ≡ false → (first second : L
 -- the program from its arguments on: a refusal and what is said behind it, or the loop
 abbrev pub running : (last : ℕ → List ℕ) (refused said first second : List ℕ) (one two : Ways) (n : ℕ) (room space text : List ℕ) → List ℕ
 running last refused said first second one two n room space text =
-    let number = disc_of said in
-    let refusal = refusal_of number (length first) (length second) in
-    cond (eqb (length refusal) 0) (comparing number first second one two last n (start_of number) room space text) (refusal ++ refused)
+    unless_refused refused (refusal_of (disc_of said) (length first) (length second))
+    (λ number. comparing number first second one two last n (start_of number) room space text) (disc_of said)
 
 -- whatever the number says and whatever the files hold, in whatever parts they come
 abbrev pub AnyRun : Type 0

@@ -1,6 +1,6 @@
 -- Req 01: "The listing must hold every differing block once and no other." Each statement holds of every disc, and is proved in `proofs/` under the
 -- name in small letters, `EveryDiffering` as `every_differing`.
-use Rattle.std.specs.Prelude.{◌≡◌, ◌⊎◌, ◌∷◌, ◌^◌, ◌<◌, ◌≤◌}
+use Rattle.std.specs.Prelude.{◌≡◌, ◌⊎◌, ◌∷◌, ◌^◌, ◌<◌, ◌≤◌, Some, None}
 use Rattle.ground.specs.Kit.{List, [], map, ℕ, suc, length, take, drop}
 use Rattle.listing.specs.declared.{Difference.Difference}
 use Rattle.disc.specs.declared.{BlockAddress.BlockAddress}
@@ -109,15 +109,16 @@ Printed = listing_of (line 9 300 100 ∷ line 2063 2 0 ∷ []) ≡ text "9 300 1
 
 -- which disc a text names: "a number outside 1 to 4", and a text that is no number, none
 pub record Named : Type 0 where
-  pub inside : (n : ℕ) → 1 ≤ n → n ≤ 4 → disc_of (decimal_of n) ≡ n
-  pub outside : (n : ℕ) → n < 2 ^ 64 → (n < 1) ⊎ (4 < n) → disc_of (decimal_of n) ≡ 0
+  pub inside : (n : ℕ) → 1 ≤ n → n ≤ 4 → disc_of (decimal_of n) ≡ Some n
+  pub outside : (n : ℕ) → n < 2 ^ 64 → (n < 1) ⊎ (4 < n) → disc_of (decimal_of n) ≡ None
   pub texts : map disc_of (text "004" ∷ text "" ∷ text "4 " ∷ text " 4" ∷ text "+4" ∷ text "4." ∷ text "18446744073709551620" ∷ [])
-      ≡ 4 ∷ 0 ∷ 0 ∷ 0 ∷ 0 ∷ 0 ∷ 0 ∷ []
+      ≡ Some 4 ∷ None ∷ None ∷ None ∷ None ∷ None ∷ None ∷ []
 
 -- "prints `disc` only, tested first", "prints only `size` and its number (1 or 2, the first wrong one)": what stands behind the first fault is not looked at
 pub record Refused : Type 0 where
-  pub disc : (number first second : ℕ) → (number < 1) ⊎ (4 < number) → refusal_of number first second ≡ text "disc\n"
-  pub one : (number first second : ℕ) → 1 ≤ number → number ≤ 4 → (first ≡ disc_bytes number → ⊥) → refusal_of number first second ≡ text "size 1\n"
+  pub disc : (number first second : ℕ) → (number < 1) ⊎ (4 < number) → refusal_of (Some number) first second ≡ text "disc\n"
+  pub nameless : (first second : ℕ) → refusal_of None first second ≡ text "disc\n"
+  pub one : (number first second : ℕ) → 1 ≤ number → number ≤ 4 → (first ≡ disc_bytes number → ⊥) → refusal_of (Some number) first second ≡ text "size 1\n"
   pub two : (number second : ℕ) → 1 ≤ number → number ≤ 4 → (second ≡ disc_bytes number → ⊥)
-      → refusal_of number (disc_bytes number) second ≡ text "size 2\n"
-  pub none : (number : ℕ) → 1 ≤ number → number ≤ 4 → refusal_of number (disc_bytes number) (disc_bytes number) ≡ []
+      → refusal_of (Some number) (disc_bytes number) second ≡ text "size 2\n"
+  pub none : (number : ℕ) → 1 ≤ number → number ≤ 4 → refusal_of (Some number) (disc_bytes number) (disc_bytes number) ≡ []

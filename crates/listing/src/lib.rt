@@ -2,16 +2,16 @@
 #![tactic(auto)]
 
 ghost use Rattle.std.specs.Prelude.{◌≡◌, ◌+◌, ◌<◌, ◌≤◌, ◌^◌, ◌-◌};
-ghost use Rattle.ground.specs.Kit.{min, length, get_or};
+ghost use Rattle.std.specs.List.{zip, sum_by, position};
+ghost use Rattle.ground.specs.Kit.{min, length, bool_byte};
 ghost use Rattle.disc.specs.Formats.{format_of, buffer_bytes, run_bytes};
-ghost use Rattle.text.specs.Ink.{ink, put_all};
-ghost use Rattle.listing.specs.Differing.{places_of, difference_of, differing_from};
-ghost use Rattle.listing.specs.Listing.{number_then, line_of, disc_of, refusal_of};
-ghost use Rattle.listing.specs.Turns.{start_of, due_of, blocks_at_once, listed, with_block, listed_of, end_of, turned, turn_of};
+ghost use Rattle.text.specs.Ink.{inked, put_on};
+ghost use Rattle.listing.specs.Differing.{apart_b, difference_of, differing_from};
+ghost use Rattle.listing.specs.Listing.{number_then, line_of, total_line, disc_of, refusal_of};
+ghost use Rattle.listing.specs.Turns.{start_of, due_of, blocks_at_once, listed, with_block, listed_of, turned, turn_of};
 
 use disc::BlockAddress;
-use ground::least;
-use text::Numeral;
+use text::Line;
 
 // The line of a block and the last line have room in so many.
 pub const LINE_BYTES: usize = 90;
@@ -38,125 +38,115 @@ pub struct Comparison {
     pub total: usize,
     // that was the last part
     pub over: bool,
-    // how many bytes the text has of this part
-    pub length: usize,
 }
 
-// How many bytes differ between two blocks: counted in 16 bits, so that many are compared at once.
-fn differing_bytes(first: &[u8], second: &[u8]) -> usize
-    requires first_len { length first.now ≡ length second.now }
-    requires first_len_bound { length first.now ≤ buffer_bytes }
-    ensures { result ≡ length (places_of (length first.now) first.now second.now) }
-{
-    let mut count = 0u16;
-    let mut i = 0;
-    while i < first.len() {
-        count += (first[i] != second[i]) as u16;
-        i += 1;
+// The bytes of a block in both images.
+#[derive(Clone, Copy)]
+struct Pair<'a> {
+    first: &'a [u8],
+    second: &'a [u8],
+    ghost alike: { length first.now ≡ length second.now },
+    ghost few: { length first.now ≤ buffer_bytes },
+}
+
+impl Pair<'_> {
+    // How many bytes differ: counted in 16 bits, so that many are compared at once.
+    fn differing_bytes(&self) -> usize
+        ensures { result ≡ sum_by (λ p. bool_byte (apart_b p)) (zip self.now.first.now self.now.second.now) }
+    {
+        let count: u16 = self
+            .first
+            .iter()
+            .zip(self.second)
+            .map(|(a, b)| u16::from(a != b))
+            .sum();
+        count as usize
     }
-    count as usize
-}
 
-// The place of the first byte that differs, behind the block where none does.
-fn first_differing(first: &[u8], second: &[u8]) -> PlaceInBlock
-    requires { length first.now ≡ length second.now }
-    ensures { result.0 ≡ get_or (places_of (length first.now) first.now second.now) 0 (length first.now) }
-{
-    let mut i = 0;
-    while i < first.len() {
-        if first[i] != second[i] {
-            return PlaceInBlock(i);
+    // The place of the first byte that differs.
+    fn first_differing(&self) -> Option<usize>
+        ensures { result ≡ position apart_b (zip self.now.first.now self.now.second.now) }
+    {
+        self.first.iter().zip(self.second).position(|(a, b)| a != b)
+    }
+
+    // What is told of a block, by its bytes in both images; where none differs, the first place is behind the block.
+    fn compared(&self, block: BlockAddress) -> Difference
+        ensures { result ≡ difference_of block self.now.first.now self.now.second.now }
+    {
+        let count = self.differing_bytes();
+        // looked for where there is one: of equal blocks it would cost another reading
+        let place = if 0 < count {
+            self.first_differing()
+        } else {
+            None
+        };
+        let first = PlaceInBlock(place.unwrap_or(self.first.len()));
+        Difference {
+            block,
+            count,
+            first,
         }
-        i += 1;
-    }
-    PlaceInBlock(i)
-}
-
-// What is told of a block, by its bytes in both images.
-fn compared(block: BlockAddress, first: &[u8], second: &[u8]) -> Difference
-    requires first_len { length first.now ≡ length second.now }
-    requires first_len_bound { length first.now ≤ buffer_bytes }
-    ensures { result ≡ difference_of block first.now second.now }
-{
-    let count = differing_bytes(first, second);
-    let place = if 0 < count {
-        first_differing(first, second)
-    } else {
-        PlaceInBlock(first.len())
-    };
-    Difference {
-        block: block,
-        count: count,
-        first: place,
     }
 }
 
 // A number in decimal, and the byte that stands behind it.
-fn put_number(text: &mut [u8], at: usize, n: u64, mark: u8) -> usize
-    ensures { ink result text.new ≡ put_all (ink at text.old) (number_then n mark) }
+#[tactic(auto, using(text::proofs::Putting::put_append))]
+fn put_number(line: &mut Line, n: usize, mark: u8)
+    ensures { inked line.new ≡ put_on (inked line.old) (number_then n mark) }
 {
-    let next = text::put_decimal(text, at, n);
-    text::put(text, next, mark)
+    line.put_decimal(n as u64);
+    line.put(mark);
 }
 
 // The line of a block that differs.
-fn put_difference(text: &mut [u8], at: usize, difference: Difference) -> usize
-    ensures { ink result text.new ≡ put_all (ink at text.old) (line_of difference) }
+#[tactic(auto, unfolding(crate::specs::Listing::line_of), using(text::proofs::Putting::put_append))]
+fn put_difference(line: &mut Line, difference: Difference)
+    ensures { inked line.new ≡ put_on (inked line.old) (line_of difference) }
 {
-    let count_at = put_number(text, at, difference.block.0 as u64, b' ');
-    let first_at = put_number(text, count_at, difference.count as u64, b' ');
-    put_number(text, first_at, difference.first.0 as u64, b'\n')
+    put_number(line, difference.block.0 as usize, b' ');
+    put_number(line, difference.count, b' ');
+    put_number(line, difference.first.0, b'\n');
 }
 
-// How many blocks differ, and how many bytes their lines have.
-#[derive(Clone, Copy)]
-struct Listed {
-    count: usize,
-    length: usize,
-}
-
-// One block more.
-fn with_block(before: Listed, difference: Difference, text: &mut [u8]) -> Listed
-    requires { before.count < 2880 }
-    ensures { listed result.count result.length text.new
-        ≡ with_block (listed before.count before.length text.old) difference }
+// How many differ with one block more, and its line.
+fn with_block(count: usize, difference: Difference, line: &mut Line) -> usize
+    requires { count < 2880 }
+    ensures { listed result (inked line.new) ≡ with_block (listed count (inked line.old)) difference }
 {
     if difference.count == 0 {
-        return before;
+        return count;
     }
-    Listed {
-        count: before.count + 1,
-        length: put_difference(text, before.length, difference),
-    }
+    put_difference(line, difference);
+    count + 1
 }
 
-// The lines of the differing ones of n blocks.
+// How many of n blocks differ, and their lines.
 fn put_blocks(
     number: u8,
     from: BlockAddress,
     n: u32,
     first: &[u8],
     second: &[u8],
-    text: &mut [u8],
-) -> Listed
+    line: &mut Line,
+) -> usize
     requires n_bound { n ≤ (format_of number).blocks - from.0 }
     requires n_bound_2 { run_bytes number n ≤ min (length first.now) (length second.now) }
-    ensures { listed result.count result.length text.new
-        ≡ listed_of (differing_from number from n first.now second.now) text.old }
+    ensures { listed result (inked line.new) ≡ listed_of (differing_from number from n first.now second.now) (inked line.old) }
 {
     let size = disc::block_bytes(number);
-    let mut told = Listed {
-        count: 0,
-        length: 0,
-    };
+    let mut count = 0;
     for k in 0..n {
         let at = disc::run_bytes(number, k);
         let upto = at + size;
-        let block = BlockAddress(from.0 + k);
-        let difference = compared(block, &first[at..upto], &second[at..upto]);
-        told = with_block(told, difference, text);
+        let pair = Pair {
+            first: &first[at..upto],
+            second: &second[at..upto],
+        };
+        let difference = pair.compared(BlockAddress(from.0 + k));
+        count = with_block(count, difference, line);
     }
-    told
+    count
 }
 
 // How many blocks are compared at once, from one on: those that both parts hold whole, and for whose lines there is room.
@@ -164,33 +154,21 @@ fn blocks_at_once(number: u8, from: BlockAddress, first: usize, second: usize, t
     ensures { result ≡ blocks_at_once number from first second text }
 {
     let format = disc::format_of(number);
-    if format.blocks <= from.0 {
-        return 0;
-    }
-    let left = format.blocks - from.0;
-    let there = least(first, second) / (format.size as usize);
+    let left = format.blocks.saturating_sub(from.0) as usize;
+    let there = first
+        .min(second)
+        .checked_div(format.size as usize)
+        .unwrap_or(0);
     let lines = text / LINE_BYTES;
-    least(left as usize, least(there, lines)) as u32
+    left.min(there.min(lines)) as u32
 }
 
-// A sum that 64 bits don't hold stays at the largest number.
-fn sum(total: usize, more: usize) -> usize
-    ensures { result ≡ min (total + more) (2 ^ 64 - 1) }
+// The last line.
+fn put_total(line: &mut Line, total: usize)
+    ensures { inked line.new ≡ put_on (inked line.old) (total_line total) }
 {
-    let most = usize::MAX - more;
-    least(total, most) + more
-}
-
-// Where a comparison is over, the last line.
-fn put_end(over: bool, total: usize, text: &mut [u8], at: usize) -> usize
-    ensures { ink result text.new ≡ put_all (ink at text.old) (end_of over total) }
-{
-    if over {
-        let next = text::put_all(text, b"total ", at);
-        put_number(text, next, total as u64, b'\n')
-    } else {
-        at
-    }
+    line.put_all(b"total ");
+    put_number(line, total, b'\n');
 }
 
 // Before the first block.
@@ -202,7 +180,6 @@ pub fn start(number: u8) -> Comparison
         block: BlockAddress(0),
         total: 0,
         over: blocks == 0,
-        length: 0,
     }
 }
 
@@ -213,57 +190,54 @@ pub fn due(number: u8, from: BlockAddress, most: usize) -> usize
 {
     let size = disc::disc_bytes(number);
     let place = disc::place_of(number, from);
-    if size <= place.0 {
-        return 0;
-    }
-    least(most, size - place.0)
+    most.min(size.saturating_sub(place.0))
 }
 
-// The lines of two parts that start with the next block, and after the last block the last line.
-pub fn turn(number: u8, run: Comparison, first: &[u8], second: &[u8], text: &mut [u8]) -> Comparison
-    ensures { turned result text.new ≡ turn_of number run first.now second.now text.old }
+// The lines of two parts that start with the next block go on in the line, and behind the last block the last line.
+pub fn turn(number: u8, run: Comparison, first: &[u8], second: &[u8], line: &mut Line) -> Comparison
+    ensures { turned result (inked line.new) ≡ turn_of number run first.now second.now (inked line.old) }
 {
-    let from = run.block;
-    let n = blocks_at_once(number, from, first.len(), second.len(), text.len());
-    let told = put_blocks(number, from, n, first, second, text);
-    let next = from.0 + n;
+    let room = line.bytes.len().saturating_sub(line.at);
+    let n = blocks_at_once(number, run.block, first.len(), second.len(), room);
+    let count = put_blocks(number, run.block, n, first, second, line);
+    let next = run.block.0 + n;
     let over = disc::format_of(number).blocks <= next;
-    let total = sum(run.total, told.count);
-    let length = put_end(over, total, text, told.length);
+    let total = run.total.saturating_add(count);
+    if over {
+        put_total(line, total);
+    }
     Comparison {
         block: BlockAddress(next),
-        total: total,
-        over: over,
-        length: length,
+        total,
+        over,
     }
 }
 
-// The disc that a text names, 0 for none.
+// The disc that a text names.
 #[tactic(auto, unfolding(crate::specs::Listing::disc_of))]
-pub fn disc_of(said: &[u8]) -> u8
+pub fn disc_of(said: &[u8]) -> Option<u8>
     ensures { result ≡ disc_of said.now }
 {
-    let numeral = text::number(said);
-    match numeral {
-        Numeral::Of(n) => { if (n < 1) | (4 < n) { 0 } else { n as u8 } }
-        Numeral::NoNumber => 0,
+    match text::number(said)? {
+        n @ 1..=4 => Some(n as u8),
+        _ => None,
     }
 }
 
 // What is printed instead of a listing, by the disc and the lengths of the two files: nothing where they can be compared.
 #[tactic(auto, unfolding(crate::specs::Listing::refusal_of, text::specs::Ink::put_all))]
-pub fn put_refusal(number: u8, first: usize, second: usize, text: &mut [u8]) -> usize
-    ensures { ink result text.new ≡ put_all (ink 0 text.old) (refusal_of number first second) }
+pub fn put_refusal(number: Option<u8>, first: usize, second: usize, line: &mut Line)
+    ensures { inked line.new ≡ put_on (inked line.old) (refusal_of number first second) }
 {
-    let size = disc::disc_bytes(number);
-    if (number < 1) | (4 < number) {
-        return text::put_all(text, b"disc\n", 0);
+    match number {
+        Some(number @ 1..=4) => {
+            let size = disc::disc_bytes(number);
+            if first != size {
+                line.put_all(b"size 1\n");
+            } else if second != size {
+                line.put_all(b"size 2\n");
+            }
+        }
+        _ => line.put_all(b"disc\n"),
     }
-    if first != size {
-        return text::put_all(text, b"size 1\n", 0);
-    }
-    if second != size {
-        return text::put_all(text, b"size 2\n", 0);
-    }
-    0
 }

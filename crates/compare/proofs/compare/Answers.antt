@@ -1,7 +1,8 @@
-use Rattle.std.specs.Prelude.{◌≡◌, ◌+◌, ◌^◌, ◌<◌, ◌≤◌}
-use Rattle.ground.specs.Kit.{ℕ, arith, rules, sym, not-true, length-take-le}
+use Rattle.std.specs.Prelude.{◌≡◌, ◌+◌, ◌-◌, ◌^◌, ◌<◌, ◌≤◌}
+use Rattle.ground.specs.Kit.{ℕ, ap, arith, rules, sym, not-true, length, length-take-le}
 use Rattle.disc.specs.Formats.{format_of}
 use Rattle.disc.proofs.Discs.{block_fits}
+use Rattle.text.specs.Ink.{Inked}
 use Rattle.listing.specs.Turns.{due_of}
 use Rattle.listing.proofs.Parts.{turn_before, turn_nearer, ends_on_disc, few_bytes}
 use Rattle.compare.proofs.compare.Goals as goal
@@ -59,10 +60,11 @@ loop-run-smaller c =
     let due = (goal.at.loop-run-smaller c).After-due-n in
     let few = (fits due).1 in
     let room = block_fits due.args.number in
-    turn_nearer _ _ _ _ _ _ _ c.turn-next.ensures 16384 _ (omega (arith, room)) (omega (arith, c.loop-run.invariant.2)) c.due-n.ensures
+    let text = ap (λ (i : Inked). length i.ink.line - i.ink.at) c.new-line.ensures in
+    turn_nearer _ _ _ _ _ _ _ c.turn-run.ensures 16384 _ (omega (arith, room)) (omega (arith, c.loop-run.invariant.2, text)) c.due-n.ensures
     (length-take-le _ _ (few_of _ _ _ few c.loop-run.invariant.0 (search rules)))
     (length-take-le _ _ (few_of _ _ _ few c.loop-run.invariant.1 (search rules)))
     (before due)
 
 pub loop-run-preserved : goal.loop-run-preserved
-loop-run-preserved c = (search rules, search rules, search rules, turn_before _ _ _ _ _ _ _ c.turn-next.ensures)
+loop-run-preserved c = (search rules, search rules, search rules, turn_before _ _ _ _ _ _ _ c.turn-run.ensures)

@@ -1,5 +1,5 @@
 use Rattle.std.specs.Prelude.{◌+◌, ◌≤◌}
-use Rattle.ground.specs.Kit.{refl, ap, ◌∙◌, min, arith, flatten, length}
+use Rattle.ground.specs.Kit.{refl, ap, min, arith, flatten, length}
 use Rattle.listing.specs.Differing.{differing_from}
 use Rattle.text.specs.Ink.{put_all}
 use Rattle.listing.specs.Listing.{lines_of}
@@ -20,40 +20,37 @@ ends c =
 
 pub loop-k-init : goal.loop-k-init
 unfolding differing_from lines_of flatten put_all
-loop-k-init c = (omega arith, refl, refl)
+loop-k-init c = refl
 
 pub overflow_add-upto : goal.overflow_add-upto
 overflow_add-upto c = record { fits = omega (arith, ends (goal.at.overflow_add-upto c).After-run_bytes-at) }
 
-pub overflow_add-block : goal.overflow_add-block
-overflow_add-block c = let few = few_blocks c.args.number in record { fits = omega (arith, few) }
+pub overflow_add-from : goal.overflow_add-from
+overflow_add-from c = let few = few_blocks c.args.number in record { fits = omega (arith, few) }
 
-pub slice_bounds-compared-end : goal.slice_bounds-compared-end
-slice_bounds-compared-end c =
-    let there = ends (goal.at.slice_bounds-compared-end c).After-run_bytes-at in omega (arith, there)
+pub slice_bounds-pair-end : goal.slice_bounds-pair-end
+slice_bounds-pair-end c =
+    let there = ends (goal.at.slice_bounds-pair-end c).After-run_bytes-at in omega (arith, there)
 
-pub slice_bounds-compared-end-in-loop-k : goal.slice_bounds-compared-end-in-loop-k
-slice_bounds-compared-end-in-loop-k c =
-    let there = ends (goal.at.slice_bounds-compared-end-in-loop-k c).After-run_bytes-at in omega (arith, there)
+pub slice_bounds-pair-end-in-loop-k : goal.slice_bounds-pair-end-in-loop-k
+slice_bounds-pair-end-in-loop-k c =
+    let there = ends (goal.at.slice_bounds-pair-end-in-loop-k c).After-run_bytes-at in omega (arith, there)
 
-pub compared-difference-requires : goal.compared-difference-requires
-compared-difference-requires c =
+pub invariant_of-pair : goal.invariant_of-pair
+invariant_of-pair c =
     let x = c.args in
-    let many = equally_many x.number _ _ x.first.now x.second.now c.block_bytes-size.ensures (ends (goal.at.compared-difference-requires c).After-run_bytes-at) in
-    record { first_len = many.0; first_len_bound = many.1 }
+    let many = equally_many x.number _ _ x.first.now x.second.now c.block_bytes-size.ensures (ends (goal.at.invariant_of-pair c).After-run_bytes-at) in
+    record { alike = many.0; few = many.1 }
 
 -- no more differ than were compared
-pub with_block-told-requires : goal.with_block-told-requires
-with_block-told-requires c =
+pub with_block-count-requires : goal.with_block-count-requires
+with_block-count-requires c =
     let loop = c.loop-k in
     let x = c.args in
-    let told = ap (λ (l : Listed). l.count) loop.invariant.2 in
+    let told = ap (λ (l : Listed). l.count) loop.invariant in
     omega (arith, told, few_differ x.number x.from x.first.now x.second.now loop.k, few_blocks x.number)
 
 pub loop-k-preserved : goal.loop-k-preserved
 loop-k-preserved c =
-    let loop = c.loop-k in (
-      omega arith,
-      c.with_block-told.auto.text ∙ loop.invariant.1,
-      listed_on _ _ _ _ _ _ _ _ _ _ _ c.run_bytes-at.ensures c.block_bytes-size.ensures c.compared-difference.ensures loop.invariant.2 c.with_block-told.ensures,
-    )
+    let loop = c.loop-k in
+    listed_on _ _ _ _ _ _ _ _ _ _ _ c.run_bytes-at.ensures c.block_bytes-size.ensures c.compared-difference.ensures loop.invariant c.with_block-count.ensures
