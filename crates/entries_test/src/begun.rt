@@ -1,57 +1,71 @@
 // Parameter lists on disc 4 that no command has begun, with what the block buffer then holds; lists in pieces, and broken off.
-use crate::steps::{READ, Step, TEST_UNIT_READY};
+// The states that are made up are sound. The writes are there for what they leave in the block buffer.
+use crate::calls::Bench;
+use crate::steps::{READ, TEST_UNIT_READY};
+use crate::table::DISC_4;
 use crate::{say, states, steps};
 use shell::Voice;
-use state::State;
 
-// The state before a turn: made up at some of them, and sound. The writes are there for what they leave in the block buffer.
-fn made_up(turn: u8, state: State) -> State {
-    match turn {
-        0 | 4 | 7 => states::plain(4, false, states::write(0, 512)),
-        1 => states::plain(4, false, states::list(3, 1)),
-        2 | 3 => states::plain(4, false, states::list(2, 1)),
-        5 => states::plain(4, false, states::list(1, 1)),
-        6 => states::plain(4, false, states::list(1, 11)),
-        8 => states::plain(4, false, states::list(1, 12)),
-        13 | 14 | 15 => states::flagged(4, states::list(0, 12), 0),
-        18 => states::plain(4, false, states::list(0, 1)),
-        _ => state,
-    }
+// The last byte of a list comes.
+fn last_bytes(voice: &mut Voice, bench: &mut Bench) {
+    bench.state = states::open(states::write(0, 512));
+    bench.play(voice, steps::list(0x10, 64, 512));
+    bench.state = states::open(states::list(3, 1));
+    bench.play(voice, steps::feed(0x00, 1));
+    bench.state = states::open(states::list(2, 1));
+    bench.play(voice, steps::feed(0x01, 1));
+    bench.state = states::open(states::list(2, 1));
+    bench.play(voice, steps::feed(0x00, 3));
+    // a defect list length of 0108
+    bench.state = states::open(states::write(0, 512));
+    bench.play(voice, steps::piece(0x00100108, 64, 512, 12));
+    bench.state = states::open(states::list(1, 1));
+    bench.play(voice, steps::feed(0x00, 1));
 }
 
-// The defect list length of turn 4 is 0108. Turn 6 has all but the first byte of a list, turns 8 and 11 have one in two pieces.
-fn step(turn: u8) -> Step {
-    match turn {
-        0 | 13 => steps::list(0x10, 64, 512),
-        1 | 5 | 17 | 19 => steps::feed(0x00, 1),
-        2 => steps::feed(0x01, 1),
-        3 => steps::feed(0x00, 3),
-        4 => steps::piece(0x00100108, 64, 512, 12),
-        6 => steps::piece(0x10000800, 0x00004000, 0x000200cc, 12),
-        7 => steps::feed(0xbb, 12),
-        8 => steps::piece(0x00110008, 0, 0, 5),
-        9 => steps::pull(64),
-        10 => steps::feed(0xcc, 0),
-        11 => steps::piece(0x00004000, 0x000200cc, 0xcccccccc, 12),
-        14 => steps::list(0x11, 63, 512),
-        15 => steps::piece(0x00110008, 64, 512, 11),
-        16 => steps::command(TEST_UNIT_READY, 0, 0, 0),
-        18 => steps::format(3),
-        20 => steps::command(READ, 0, 0, 1),
-        _ => steps::list(0x00, 64, 512),
-    }
+// All but the first byte of a list come, and two lists in two pieces.
+fn pieces(voice: &mut Voice, bench: &mut Bench) {
+    bench.state = states::open(states::list(1, 11));
+    bench.play(voice, steps::piece(0x10000800, 0x00004000, 0x000200cc, 12));
+    bench.state = states::open(states::write(0, 512));
+    bench.play(voice, steps::feed(0xbb, 12));
+    bench.state = states::open(states::list(1, 12));
+    bench.play(voice, steps::piece(0x00110008, 0, 0, 5));
+    bench.play(voice, steps::pull(64));
+    bench.play(voice, steps::feed(0xcc, 0));
+    bench.play(voice, steps::piece(0x00004000, 0x000200cc, 0xcccccccc, 12));
+    bench.play(voice, steps::list(0x00, 64, 512));
+}
+
+// With a sense and flags.
+fn flagged(voice: &mut Voice, bench: &mut Bench) {
+    let flagged = states::flagged(4, states::list(0, 12), 0);
+    bench.state = flagged;
+    bench.play(voice, steps::list(0x10, 64, 512));
+    bench.state = flagged;
+    bench.play(voice, steps::list(0x11, 63, 512));
+    bench.state = flagged;
+    bench.play(voice, steps::piece(0x00110008, 64, 512, 11));
+}
+
+fn broken_off(voice: &mut Voice, bench: &mut Bench) {
+    bench.play(voice, steps::command(TEST_UNIT_READY, 0, 0, 0));
+    bench.play(voice, steps::feed(0x00, 1));
+    bench.state = states::open(states::list(0, 1));
+    bench.play(voice, steps::format(3));
+    bench.play(voice, steps::feed(0x00, 1));
+    bench.play(voice, steps::command(READ, 0, 0, 1));
+    bench.play(voice, steps::list(0x00, 64, 512));
 }
 
 pub(crate) fn all(voice: &mut Voice) {
-    let mut buffer = [0xbbu8; 1025];
-    let mut room = [0xd4u8; 1474560];
-    let mut state = drive::power_on();
+    let mut bench = Bench::new(drive::power_on(), DISC_4.bytes, 0xd4);
     say::text(
         voice,
         b"= lists begun in the block buffer, in pieces, with a sense and flags, and broken off\n",
     );
-    for turn in 0..22 {
-        let before = made_up(turn, state);
-        state = steps::play(voice, step(turn), before, 32768, &mut buffer, &mut room);
-    }
+    last_bytes(voice, &mut bench);
+    pieces(voice, &mut bench);
+    flagged(voice, &mut bench);
+    broken_off(voice, &mut bench);
 }

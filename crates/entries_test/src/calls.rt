@@ -1,109 +1,81 @@
 // Calls on buffers of which so many bytes are lent, each with its line behind the label.
-use crate::entries::Calls;
-use crate::{entries, say};
+use crate::entries::{Calls, Lent};
+use crate::say;
 use shell::Voice;
 use state::State;
 
-// A packet, a piece, or what a pull fills.
-pub(crate) type Caller = [u8; 1024];
-
-// A block buffer, and a byte more.
-pub(crate) type Buffer = [u8; 1025];
-
-// The longest disc is disc 3.
-pub(crate) type Room = [u8; 1474560];
-
-// How many bytes of each are lent.
+// A call's label, the state that it comes to, and how many bytes of each buffer it is lent.
 #[derive(Clone, Copy)]
-pub(crate) struct Lent {
+pub(crate) struct Case<'a> {
+    pub(crate) label: &'a [u8],
+    pub(crate) state: State,
     pub(crate) caller: usize,
     pub(crate) buffer: usize,
     pub(crate) disc: usize,
 }
 
+// What a caller of the drive keeps: its state, a block buffer with a byte more, and room for disc 3, the longest.
+#[derive(Drop)]
+pub(crate) struct Bench {
+    pub(crate) state: State,
+    // how many bytes of the room are the disc
+    disc: usize,
+    buffer: [u8; 1025],
+    room: [u8; 1474560],
+}
+
 // What was lent is shown as the calls left it.
-fn line(
-    voice: &mut Voice,
-    calls: Calls,
-    state: State,
-    caller: &mut [u8],
-    buffer: &mut [u8],
-    disc: &mut [u8],
-) -> State {
+fn line(voice: &mut Voice, calls: Calls, state: State, lent: &mut Lent) -> State {
     say::text(voice, b":");
-    let after = entries::called(voice, calls, state, caller, buffer, disc);
+    let after = lent.called(voice, calls, state);
     say::rest(voice, after);
-    say::bytes(voice, caller);
-    say::bytes(voice, buffer);
-    say::bytes(voice, disc);
+    say::bytes(voice, lent.caller);
+    say::bytes(voice, lent.buffer);
+    say::bytes(voice, lent.disc);
     say::text(voice, b"\n");
     after
 }
 
-// Lends so many bytes of each, or all there are.
-fn lend(
-    voice: &mut Voice,
-    calls: Calls,
-    state: State,
-    lent: Lent,
-    caller: &mut [u8],
-    buffer: &mut [u8],
-    room: &mut [u8],
-) -> State {
-    let own = ground::least(lent.caller, caller.len());
-    let block = ground::least(lent.buffer, buffer.len());
-    let disc = ground::least(lent.disc, room.len());
-    line(
-        voice,
-        calls,
-        state,
-        &mut caller[..own],
-        &mut buffer[..block],
-        &mut room[..disc],
-    )
+// So many bytes of a buffer, or all there are.
+pub(crate) fn start(bytes: &mut [u8], count: usize) -> &mut [u8] {
+    let n = count.min(bytes.len());
+    &mut bytes[..n]
 }
 
-// The same of arrays, whose lengths no proof has to follow.
-pub(crate) fn call(
-    voice: &mut Voice,
-    calls: Calls,
-    state: State,
-    lent: Lent,
-    caller: &mut Caller,
-    buffer: &mut Buffer,
-    room: &mut Room,
-) -> State {
-    lend(voice, calls, state, lent, caller, buffer, room)
+impl Bench {
+    // A disc of so many equal bytes.
+    pub(crate) fn new(state: State, disc: usize, byte: u8) -> Bench {
+        Bench {
+            state,
+            disc,
+            buffer: [0xbb; 1025],
+            room: [byte; 1474560],
+        }
+    }
+
+    // All of the caller's buffer is lent, and so many bytes of the block buffer.
+    pub(crate) fn call(
+        &mut self,
+        voice: &mut Voice,
+        calls: Calls,
+        caller: &mut [u8],
+        buffer: usize,
+    ) {
+        let mut lent = Lent {
+            caller,
+            buffer: start(&mut self.buffer, buffer),
+            disc: start(&mut self.room, self.disc),
+        };
+        self.state = line(voice, calls, self.state, &mut lent);
+    }
 }
 
 // Calls on fresh buffers. The caller's is an INQUIRY where it is a packet.
-pub(crate) fn fresh(
-    voice: &mut Voice,
-    label: &[u8],
-    calls: Calls,
-    state: State,
-    caller: usize,
-    buffer: usize,
-    disc: usize,
-) {
+pub(crate) fn fresh(voice: &mut Voice, calls: Calls, case: Case) {
+    let mut bench = Bench::new(case.state, case.disc, 0xd4);
     let mut packet = [0u8; 1024];
-    let mut block = [0xbbu8; 1025];
-    let mut room = [0xd4u8; 1474560];
-    let lent = Lent {
-        caller: caller,
-        buffer: buffer,
-        disc: disc,
-    };
     packet[0] = 0x12;
     packet[4] = 0x24;
-    say::text(voice, label);
-    call(
-        voice,
-        calls,
-        state,
-        lent,
-        &mut packet,
-        &mut block,
-        &mut room,
-    );
+    say::text(voice, case.label);
+    bench.call(voice, calls, start(&mut packet, case.caller), case.buffer);
 }

@@ -1,48 +1,54 @@
 // Discs 1 to 3 in use, from power-on: their answers, and their last two blocks.
+use crate::calls::Bench;
 use crate::steps::{
-    MODE_SENSE, READ, READ_CAPACITY, READ_FORMAT_CAPACITIES, Step, TEST_UNIT_READY, WRITE,
+    MODE_SENSE, READ, READ_CAPACITY, READ_FORMAT_CAPACITIES, TEST_UNIT_READY, WRITE,
 };
+use crate::table::Disc;
 use crate::{say, steps};
 use shell::Voice;
 
-// `first` is the first of the last two blocks, and a piece is 24 bytes shorter than a block.
-fn step(turn: u8, number: u8, first: u16, piece: usize) -> Step {
-    let block = first as u32;
-    match turn {
-        0 => steps::insert(number),
-        1 | 2 => steps::command(TEST_UNIT_READY, 0, 0, 0),
-        3 => steps::command(READ_CAPACITY, 0, 0, 0),
-        4 => steps::pull(12),
-        5 => steps::command(READ_FORMAT_CAPACITIES, 0, 0, 0xff),
-        6 => steps::command(MODE_SENSE, 0x05, 0, 0xff),
-        7 => steps::command(WRITE, 0, block, 2),
-        8 => steps::feed(0xa1, piece),
-        9 => steps::feed(0xb2, piece),
-        10 => steps::feed(0xc3, 100),
-        11 => steps::command(READ, 0, block, 2),
-        12 | 13 => steps::pull(piece),
-        14 => steps::pull(100),
-        15 => steps::command(READ, 0, block + 1, 1),
-        16 => steps::command(WRITE, 0, block + 1, 2),
-        _ => steps::command(READ, 0, block + 2, 0),
-    }
+fn answers(voice: &mut Voice, bench: &mut Bench, number: u8) {
+    bench.play(voice, steps::insert(number));
+    bench.play(voice, steps::command(TEST_UNIT_READY, 0, 0, 0));
+    bench.play(voice, steps::command(TEST_UNIT_READY, 0, 0, 0));
+    bench.play(voice, steps::command(READ_CAPACITY, 0, 0, 0));
+    bench.play(voice, steps::pull(12));
+    bench.play(voice, steps::command(READ_FORMAT_CAPACITIES, 0, 0, 0xff));
+    bench.play(voice, steps::command(MODE_SENSE, 0x05, 0, 0xff));
 }
 
-// A disc of zeros, of so many bytes.
-pub(crate) fn in_use(
-    voice: &mut Voice,
-    title: &[u8],
-    number: u8,
-    disc: usize,
-    first: u16,
-    piece: usize,
-) {
-    let mut buffer = [0xbbu8; 1025];
-    let mut room = [0u8; 1474560];
-    let mut state = drive::power_on();
-    say::text(voice, title);
-    for turn in 0..18 {
-        let next = step(turn, number, first, piece);
-        state = steps::play(voice, next, state, disc, &mut buffer, &mut room);
-    }
+// `block` is the first of the two, and a piece is 24 bytes shorter than a block.
+fn last_two(voice: &mut Voice, bench: &mut Bench, block: u16, piece: usize) {
+    bench.play(voice, steps::command(WRITE, 0, block, 2));
+    bench.play(voice, steps::feed(0xa1, piece));
+    bench.play(voice, steps::feed(0xb2, piece));
+    bench.play(voice, steps::feed(0xc3, 100));
+    bench.play(voice, steps::command(READ, 0, block, 2));
+    bench.play(voice, steps::pull(piece));
+    bench.play(voice, steps::pull(piece));
+    bench.play(voice, steps::pull(100));
+}
+
+// The last block, and two places where there are not as many blocks.
+fn ends(voice: &mut Voice, bench: &mut Bench, last: u16) {
+    bench.play(voice, steps::command(READ, 0, last, 1));
+    bench.play(voice, steps::command(WRITE, 0, last, 2));
+    bench.play(voice, steps::command(READ, 0, last.saturating_add(1), 0));
+}
+
+// A disc of zeros.
+pub(crate) fn in_use(voice: &mut Voice, disc: Disc) {
+    let mut bench = Bench::new(drive::power_on(), disc.bytes, 0);
+    say::title(voice, disc.number);
+    say::text(voice, b", blocks of");
+    say::count(voice, usize::from(disc.size));
+    say::text(voice, b"\n");
+    answers(voice, &mut bench, disc.number);
+    last_two(
+        voice,
+        &mut bench,
+        disc.blocks.saturating_sub(2),
+        usize::from(disc.size.saturating_sub(24)),
+    );
+    ends(voice, &mut bench, disc.blocks.saturating_sub(1));
 }

@@ -1,6 +1,6 @@
 // The entries of the drive, called: the caller's buffer is a command's packet, a feed's piece, or what a pull fills.
 use crate::say;
-use drive::{CommandReply, EventReply, House, MoveReply};
+use drive::{Moved, Obeyed, Refusal};
 use shell::Voice;
 use state::{Media, State};
 
@@ -13,7 +13,18 @@ pub(crate) enum Entry {
     Eject,
 }
 
-// One entry, or the five one after the other.
+const EACH: [Entry; 5] = [
+    Entry::Command,
+    Entry::Feed,
+    Entry::Pull,
+    Entry::Insert(Media {
+        disc: 4,
+        protected: false,
+    }),
+    Entry::Eject,
+];
+
+// One entry, or the five one after the other; no Option or slice says that the line of one call tells more than that of the five.
 #[derive(Clone, Copy)]
 pub(crate) enum Calls {
     One(Entry),
@@ -23,126 +34,90 @@ pub(crate) enum Calls {
 // What any of them answers: only a command passes, and only a feed and a pull move bytes.
 #[derive(Clone, Copy)]
 struct Answer {
-    house: House,
     passed: bool,
     count: usize,
     state: State,
 }
 
-fn commanded(reply: CommandReply) -> Answer {
-    let house = reply.house;
-    let after = reply.state;
-    Answer {
-        house: house,
-        passed: reply.passed,
-        count: 0,
-        state: after,
+impl From<State> for Answer {
+    fn from(state: State) -> Answer {
+        Answer {
+            passed: false,
+            count: 0,
+            state,
+        }
     }
 }
 
-fn moved(reply: MoveReply) -> Answer {
-    let house = reply.house;
-    let after = reply.state;
-    Answer {
-        house: house,
-        passed: false,
-        count: reply.count,
-        state: after,
+impl From<Obeyed> for Answer {
+    fn from(obeyed: Obeyed) -> Answer {
+        Answer {
+            passed: obeyed.passed,
+            ..Answer::from(obeyed.state)
+        }
     }
 }
 
-fn happened(reply: EventReply) -> Answer {
-    let house = reply.house;
-    let after = reply.state;
-    Answer {
-        house: house,
-        passed: false,
-        count: 0,
-        state: after,
+impl From<Moved> for Answer {
+    fn from(moved: Moved) -> Answer {
+        Answer {
+            count: moved.count,
+            ..Answer::from(moved.state)
+        }
     }
 }
 
-fn entered(
-    entry: Entry,
-    state: State,
-    caller: &mut [u8],
-    buffer: &mut [u8],
-    disc: &mut [u8],
-) -> Answer {
-    match entry {
-        Entry::Command => commanded(drive::command(state, caller, buffer, disc)),
-        Entry::Feed => moved(drive::feed(state, caller, buffer, disc)),
-        Entry::Pull => moved(drive::pull(state, caller, buffer, disc)),
-        Entry::Insert(media) => happened(drive::insert(state, media.disc, media.protected, disc)),
-        Entry::Eject => happened(drive::eject(state)),
+// What the entries are lent.
+#[derive(Drop)]
+pub(crate) struct Lent<'a> {
+    pub(crate) caller: &'a mut [u8],
+    pub(crate) buffer: &'a mut [u8],
+    pub(crate) disc: &'a mut [u8],
+}
+
+impl Lent<'_> {
+    fn entered(&mut self, entry: Entry, state: State) -> Result<Answer, Refusal> {
+        // reborrowed one by one, since the check has no proof where a field is read while another is lent
+        let caller = &mut *self.caller;
+        let buffer = &mut *self.buffer;
+        let disc = &mut *self.disc;
+        Ok(match entry {
+            Entry::Command => drive::command(state, caller, buffer, disc)?.into(),
+            Entry::Feed => drive::feed(state, caller, buffer, disc)?.into(),
+            Entry::Pull => drive::pull(state, caller, buffer, disc)?.into(),
+            Entry::Insert(media) => drive::insert(state, media.disc, media.protected, disc)?.into(),
+            Entry::Eject => drive::eject(state)?.into(),
+        })
     }
-}
 
-// One call: its house number, the triple, the count, and whether it passed.
-fn one(
-    voice: &mut Voice,
-    entry: Entry,
-    state: State,
-    caller: &mut [u8],
-    buffer: &mut [u8],
-    disc: &mut [u8],
-) -> State {
-    let reply = entered(entry, state, caller, buffer, disc);
-    let house = reply.house;
-    let after = reply.state;
-    let sense = after.host.sense;
-    say::house(voice, house);
-    say::sense(voice, sense);
-    say::count(voice, reply.count);
-    say::flag(voice, reply.passed, b" passed");
-    after
-}
-
-fn entry_of(turn: u8) -> Entry {
-    match turn {
-        0 => Entry::Command,
-        1 => Entry::Feed,
-        2 => Entry::Pull,
-        3 => Entry::Insert(Media {
-            disc: 4,
-            protected: false,
-        }),
-        _ => Entry::Eject,
+    // One call: its house number, the triple, the count, and whether it passed. A refusal leaves the state.
+    fn one(&mut self, voice: &mut Voice, entry: Entry, state: State) -> State {
+        let reply = self.entered(entry, state);
+        let answer = reply.unwrap_or(Answer::from(state));
+        say::house(voice, drive::number_of(&reply));
+        say::sense(voice, answer.state.host.sense);
+        say::count(voice, answer.count);
+        say::flag(voice, answer.passed, b" passed");
+        answer.state
     }
-}
 
-// The five: the house number of each, and the triple after them.
-fn each(
-    voice: &mut Voice,
-    state: State,
-    caller: &mut [u8],
-    buffer: &mut [u8],
-    disc: &mut [u8],
-) -> State {
-    let mut after = state;
-    for turn in 0..5 {
-        let reply = entered(entry_of(turn), after, caller, buffer, disc);
-        let house = reply.house;
-        let next = reply.state;
-        say::house(voice, house);
-        after = next;
+    // The five: the house number of each, and the triple after them.
+    fn each(&mut self, voice: &mut Voice, state: State) -> State {
+        let mut after = state;
+        for entry in EACH {
+            let reply = self.entered(entry, after);
+            say::house(voice, drive::number_of(&reply));
+            after = reply.map_or(after, |answer| answer.state);
+        }
+        say::sense(voice, after.host.sense);
+        after
     }
-    let sense = after.host.sense;
-    say::sense(voice, sense);
-    after
-}
 
-// The answer is the state after the calls.
-pub(crate) fn called(
-    voice: &mut Voice,
-    calls: Calls,
-    state: State,
-    caller: &mut [u8],
-    buffer: &mut [u8],
-    disc: &mut [u8],
-) -> State {
-    match calls {
-        Calls::One(entry) => one(voice, entry, state, caller, buffer, disc),
-        Calls::Each => each(voice, state, caller, buffer, disc),
+    // The answer is the state after the calls.
+    pub(crate) fn called(&mut self, voice: &mut Voice, calls: Calls, state: State) -> State {
+        match calls {
+            Calls::One(entry) => self.one(voice, entry, state),
+            Calls::Each => self.each(voice, state),
+        }
     }
 }

@@ -17,27 +17,29 @@ mod say;
 mod soundness;
 mod states;
 mod steps;
+mod table;
 
 use shell::Voice;
 use std::process::ExitCode;
+use table::{DISC_1, DISC_2, DISC_3};
 
 fn run(voice: &mut Voice) {
-    if !shell::is_alone(voice, b"entries_test: usage: entries_test\n") {
+    if !voice.is_alone(b"entries_test: usage: entries_test\n") {
         return;
     }
-    discs::in_use(voice, b"= disc 1, blocks of 512\n", 1, 737280, 1438, 488);
-    discs::in_use(voice, b"= disc 2, blocks of 1024\n", 2, 1261568, 1230, 1000);
-    discs::in_use(voice, b"= disc 3, blocks of 512\n", 3, 1474560, 2878, 488);
+    for disc in [DISC_1, DISC_2, DISC_3] {
+        discs::in_use(voice, disc);
+    }
     formats::all(voice);
     refusals::all(voice);
     soundness::all(voice);
     inside::all(voice);
     begun::all(voice);
-    shell::end(voice, shell::AS_HOPED);
+    voice.end(shell::AS_HOPED);
 }
 
 fn main(rt: HostRuntime) -> ExitCode {
-    let mut voice = shell::heard(rt);
+    let mut voice = Voice::new(rt, b"entries_test");
     run(&mut voice);
-    shell::exit_code(&voice)
+    voice.exit_code()
 }

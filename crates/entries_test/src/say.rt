@@ -1,38 +1,31 @@
 // What a line says, part by part: each part starts with a space, but for a plain text.
-ghost use Rattle.std.specs.Prelude.{◌<◌, ◌≤◌};
-ghost use Rattle.ground.specs.Kit.{length};
-
-use drive::House;
 use shell::Voice;
 use state::{Sense, State, Transfer};
+use text::Line;
 
 // The longest number that a line has.
 const DIGITS: usize = 20;
 
 // The first that can't be printed is the last that is heard of the test.
-fn printed(voice: &mut Voice, whole: bool) {
-    if !whole {
-        shell::fall_silent(voice);
+pub(crate) fn text(voice: &mut Voice, text: &[u8]) {
+    if !voice.print(text) {
+        voice.fall_silent();
     }
 }
 
-pub(crate) fn text(voice: &mut Voice, text: &[u8]) {
-    let whole = shell::print(voice, b"entries_test", text);
-    printed(voice, whole);
-}
-
 fn decimal(voice: &mut Voice, n: usize) {
-    let mut digits = [0u8; DIGITS];
-    let end = text::put_decimal(&mut digits, 0, n as u64);
-    let length = ground::least(end, DIGITS);
-    text(voice, &digits[..length]);
+    let mut digits = [0; DIGITS];
+    let mut line = Line::new(&mut digits);
+    line.put_decimal(n as u64);
+    text(voice, line.said());
 }
 
 fn hex(voice: &mut Voice, b: u8) {
-    let mut digits = [0u8; 2];
-    text::put_hex(&mut digits, 0, b);
-    text(voice, b" ");
-    text(voice, &digits);
+    let mut digits = [0; 3];
+    let mut line = Line::new(&mut digits);
+    line.put(b' ');
+    line.put_hex(b);
+    text(voice, line.said());
 }
 
 pub(crate) fn count(voice: &mut Voice, n: usize) {
@@ -40,9 +33,15 @@ pub(crate) fn count(voice: &mut Voice, n: usize) {
     decimal(voice, n);
 }
 
+// With it a section's title begins.
+pub(crate) fn title(voice: &mut Voice, disc: u8) {
+    text(voice, b"= disc");
+    count(voice, usize::from(disc));
+}
+
 // The house number.
-pub(crate) fn house(voice: &mut Voice, house: House) {
-    count(voice, drive::number_of(house) as usize);
+pub(crate) fn house(voice: &mut Voice, number: u8) {
+    count(voice, usize::from(number));
 }
 
 pub(crate) fn sense(voice: &mut Voice, sense: Sense) {
@@ -71,51 +70,36 @@ fn transfer(voice: &mut Voice, transfer: Transfer) {
         Transfer::Answer(p) => span(voice, b" answer ", p.at, p.left),
         Transfer::Read(p) => span(voice, b" read ", p.at.0, p.left),
         Transfer::Write(p) => span(voice, b" write ", p.at.0, p.left),
-        Transfer::ParameterList(p) => span(voice, b" list ", p.track as usize, p.left),
+        Transfer::ParameterList(p) => span(voice, b" list ", usize::from(p.track), p.left),
     }
 }
 
 // The state without its triple: the disc, the flags that are set, and what is open.
 pub(crate) fn rest(voice: &mut Voice, state: State) {
-    let open = state.transfer;
     text(voice, b" | disc");
-    count(voice, state.media.disc as usize);
+    count(voice, usize::from(state.media.disc));
     flag(voice, state.media.protected, b" protected");
     flag(voice, state.motor, b" motor");
     flag(voice, state.host.power, b" power");
     flag(voice, state.host.change, b" change");
-    transfer(voice, open);
+    transfer(voice, state.transfer);
 }
 
-// A byte, with a count where it stands more than once.
-fn run(voice: &mut Voice, b: u8, times: usize) {
-    hex(voice, b);
-    if 1 < times {
-        text(voice, b"*");
-        decimal(voice, times);
+// Equal bytes: the byte, with a count where it stands more than once.
+fn run(voice: &mut Voice, equal: &[u8]) {
+    if let Some(b) = equal.first() {
+        hex(voice, *b);
+        if 1 < equal.len() {
+            text(voice, b"*");
+            decimal(voice, equal.len());
+        }
     }
-}
-
-// Where the equal bytes end that begin at a place.
-fn run_end(bytes: &[u8], at: usize) -> usize
-    requires { at < length bytes.now }
-    ensures { (at < result) × (result ≤ length bytes.now) }
-{
-    let first = bytes[at];
-    let mut end = at + 1;
-    while end < bytes.len() && bytes[end] == first {
-        end += 1;
-    }
-    end
 }
 
 // All bytes of a buffer, behind a bar.
 pub(crate) fn bytes(voice: &mut Voice, bytes: &[u8]) {
     text(voice, b" |");
-    let mut at = 0;
-    while at < bytes.len() {
-        let end = run_end(bytes, at);
-        run(voice, bytes[at], end - at);
-        at = end;
+    for equal in bytes.chunk_by(|a, b| a == b) {
+        run(voice, equal);
     }
 }

@@ -3,13 +3,13 @@ use disc::BytePlace;
 use state::{AnswerAt, DiscAt, Host, ListAt, Media, Sense, State, Transfer};
 
 pub(crate) fn answer(at: usize, left: usize) -> Transfer {
-    Transfer::Answer(AnswerAt { at: at, left: left })
+    Transfer::Answer(AnswerAt { at, left })
 }
 
 fn on_disc(at: usize, left: usize) -> DiscAt {
     DiscAt {
         at: BytePlace(at),
-        left: left,
+        left,
     }
 }
 
@@ -22,41 +22,37 @@ pub(crate) fn write(at: usize, left: usize) -> Transfer {
 }
 
 pub(crate) fn list(track: u8, left: usize) -> Transfer {
-    Transfer::ParameterList(ListAt {
-        track: track,
-        left: left,
-    })
+    Transfer::ParameterList(ListAt { track, left })
 }
 
 // The triple of a number below 2^24.
 pub(crate) fn triple(n: u32) -> Sense {
-    Sense(
-        (n / 65536 % 256) as u8,
-        (n / 256 % 256) as u8,
-        (n % 256) as u8,
-    )
+    let [_, key, code, qualifier] = n.to_be_bytes();
+    Sense(key, code, qualifier)
 }
 
 // The motor flag and both attention flags are set, or clear.
-fn made(number: u8, protected: bool, flags: bool, sense: Sense, transfer: Transfer) -> State {
+fn made(disc: u8, protected: bool, flags: bool, sense: Sense, transfer: Transfer) -> State {
     State {
-        media: Media {
-            disc: number,
-            protected: protected,
-        },
+        media: Media { disc, protected },
         motor: flags,
         host: Host {
             power: flags,
             change: flags,
-            sense: sense,
+            sense,
         },
-        transfer: transfer,
+        transfer,
     }
 }
 
 // No flag and no sense.
 pub(crate) fn plain(number: u8, protected: bool, transfer: Transfer) -> State {
     made(number, protected, false, state::NO_SENSE, transfer)
+}
+
+// The same on disc 4.
+pub(crate) fn open(transfer: Transfer) -> State {
+    plain(4, false, transfer)
 }
 
 // No flag, and nothing open on disc 4.

@@ -9,9 +9,8 @@ fn play(voice: &mut Voice, number: u64) -> bool {
     let mut disc = [0u8; player::DISC_BYTES];
     let mut line = [0u8; player::LINE_BYTES];
     let script = [4, 0, 2, 0];
-    let state = drive::power_on();
     let step = player::step(
-        state,
+        drive::power_on(),
         number,
         &script,
         true,
@@ -19,12 +18,12 @@ fn play(voice: &mut Voice, number: u64) -> bool {
         &mut disc,
         &mut line,
     );
-    let n = ground::least(step.length, player::LINE_BYTES);
-    shell::print(voice, b"late_test", &line[..n])
+    let length = step.map_or(0, |step| step.length);
+    voice.print(&line[..length.min(player::LINE_BYTES)])
 }
 
 fn run(voice: &mut Voice) {
-    if !shell::is_alone(voice, b"late_test: usage: late_test\n") {
+    if !voice.is_alone(b"late_test: usage: late_test\n") {
         return;
     }
     if play(voice, 4294967295)
@@ -33,12 +32,12 @@ fn run(voice: &mut Voice) {
         && play(voice, 10000000000000000000)
         && play(voice, 18446744073709551615)
     {
-        shell::end(voice, shell::AS_HOPED);
+        voice.end(shell::AS_HOPED);
     }
 }
 
 fn main(rt: HostRuntime) -> ExitCode {
-    let mut voice = shell::heard(rt);
+    let mut voice = Voice::new(rt, b"late_test");
     run(&mut voice);
-    shell::exit_code(&voice)
+    voice.exit_code()
 }

@@ -3,11 +3,11 @@
 
 ghost use Rattle.std.specs.Prelude.{◌+◌, ◌≤◌};
 
-use moves::MoveReply;
-use shell::{Argument, Voice};
+use drive::Moved;
+use shell::Voice;
 use state::{State, Transfer};
 use std::process::ExitCode;
-use text::Numeral;
+use text::Line;
 
 const TEST_UNIT_READY: u8 = 0x00;
 
@@ -19,6 +19,8 @@ const WRITE: u8 = 0x2a;
 const DISC_BYTES: usize = 1474560;
 
 type Disc = [u8; DISC_BYTES];
+
+const BLOCKS: u16 = 2880;
 
 type Buffer = [u8; disc::BUFFER_BYTES];
 
@@ -32,63 +34,54 @@ const WORD_BYTES: usize = 20;
 
 const LINE_BYTES: usize = 27;
 
-// No number was given.
-const NONE: u64 = u64::MAX;
-
 #[derive(Clone, Copy)]
 enum Work {
     Feed,
     Pull,
     Copy,
-    Unknown,
 }
 
-// What a word of the arguments says, as work and as a number.
+// What the arguments ask for: so many calls, each of so many bytes.
 #[derive(Clone, Copy)]
-struct Word {
+struct Job {
     work: Work,
-    number: u64,
+    length: usize,
+    count: u64,
 }
 
 // A packet with a length in bytes 7 and 8.
-fn command(code: u8, blocks: [u8; 2], state: State, buffer: &mut [u8], disc: &[u8]) -> State {
-    let packet = [code, 0, 0, 0, 0, 0, 0, blocks[0], blocks[1], 0, 0, 0];
-    let reply = drive::command(state, &packet, buffer, disc);
-    reply.state
+fn command(code: u8, blocks: u16, state: State, buffer: &mut [u8], disc: &[u8]) -> State {
+    let [high, low] = blocks.to_be_bytes();
+    let packet = [code, 0, 0, 0, 0, 0, 0, high, low, 0, 0, 0];
+    drive::command(state, &packet, buffer, disc).map_or(state, |obeyed| obeyed.state)
 }
 
 // The disc is in, and both attentions have been reported.
 fn ready(buffer: &mut [u8], disc: &[u8]) -> State {
-    let inserted = drive::insert(drive::power_on(), 3, false, disc);
-    let told = command(TEST_UNIT_READY, [0, 0], inserted.state, buffer, disc);
-    command(TEST_UNIT_READY, [0, 0], told, buffer, disc)
+    let on = drive::power_on();
+    let inserted = drive::insert(on, 3, false, disc).unwrap_or(on);
+    let told = command(TEST_UNIT_READY, 0, inserted, buffer, disc);
+    command(TEST_UNIT_READY, 0, told, buffer, disc)
 }
 
-// A read or a write of all 2,880 blocks, where none is open.
+// A read or a write of all blocks, where none is open.
 fn opened(code: u8, state: State, buffer: &mut [u8], disc: &[u8]) -> State {
-    let transfer = state.transfer;
-    match transfer {
-        Transfer::Closed => command(code, [0x0b, 0x40], state, buffer, disc),
+    match state.transfer {
+        Transfer::Closed => command(code, BLOCKS, state, buffer, disc),
         _ => state,
     }
 }
 
-// A feed, else a pull.
-fn call(
-    work: Work,
-    state: State,
-    piece: &mut [u8],
-    buffer: &mut [u8],
-    disc: &mut [u8],
-) -> MoveReply {
+// A feed, else a pull, told apart at each call as any caller would; one that is refused moves nothing.
+fn call(work: Work, state: State, piece: &mut [u8], buffer: &mut [u8], disc: &mut [u8]) -> Moved {
     match work {
         Work::Feed => {
-            let open = opened(WRITE, state, buffer, disc);
-            drive::feed(open, piece, buffer, disc)
+            let state = opened(WRITE, state, buffer, disc);
+            drive::feed(state, piece, buffer, disc).unwrap_or(Moved { count: 0, state })
         }
         _ => {
-            let open = opened(READ, state, buffer, disc);
-            drive::pull(open, piece, buffer, disc)
+            let state = opened(READ, state, buffer, disc);
+            drive::pull(state, piece, buffer, disc).unwrap_or(Moved { count: 0, state })
         }
     }
 }
@@ -96,13 +89,11 @@ fn call(
 // How many bytes so many calls have moved.
 fn calls(work: Work, count: u64, piece: &mut [u8], buffer: &mut [u8], disc: &mut [u8]) -> u64 {
     let mut state = ready(buffer, disc);
-    let mut total: u64 = 0;
-    let mut left = count;
-    while 0 < left {
-        let reply = call(work, state, piece, buffer, disc);
-        state = reply.state;
-        total = total.wrapping_add(reply.count as u64);
-        left -= 1;
+    let mut total = 0u64;
+    for _ in 0..count {
+        let moved = call(work, state, piece, buffer, disc);
+        state = moved.state;
+        total = total.wrapping_add(moved.count as u64);
     }
     total
 }
@@ -117,155 +108,96 @@ fn place_after(at: usize, piece: usize, disc: usize) -> usize
 
 // The same by std's copy, from the piece to the disc.
 fn copies(count: u64, piece: &[u8], disc: &mut [u8]) -> u64 {
-    let most = ground::least(piece.len(), disc.len());
+    let most = piece.len().min(disc.len());
     let mut at = 0;
-    let mut total: u64 = 0;
-    let mut left = count;
-    while 0 < left {
+    let mut total = 0u64;
+    for _ in 0..count {
         let place = place_after(at, most, disc.len());
         at = place + most;
         disc[place..at].copy_from_slice(&piece[..most]);
         total = total.wrapping_add(most as u64);
-        left -= 1;
     }
     total
 }
 
-fn work_of(word: &[u8]) -> Work {
-    if word == b"feed".as_slice() {
-        Work::Feed
-    } else if word == b"pull".as_slice() {
-        Work::Pull
-    } else if word == b"copy".as_slice() {
-        Work::Copy
-    } else {
-        Work::Unknown
+fn work_of(word: &[u8]) -> Option<Work> {
+    match word {
+        b"feed" => Some(Work::Feed),
+        b"pull" => Some(Work::Pull),
+        b"copy" => Some(Work::Copy),
+        _ => None,
     }
 }
 
-fn number_of(word: &[u8]) -> u64 {
-    let numeral = text::number(word);
-    match numeral {
-        Numeral::Of(n) => n,
-        Numeral::NoNumber => NONE,
+// The number that an argument says. No run makes as many calls as the largest of 64 bits, which counts as none.
+fn number_asked(rt: HostRuntime, i: usize) -> Option<u64> {
+    let mut room = [0; WORD_BYTES];
+    let n = shell::given(rt, i, &mut room).ok()?;
+    text::number(&room[..n]).filter(|number| *number < u64::MAX)
+}
+
+fn asked(rt: HostRuntime) -> Option<Job> {
+    let mut room = [0; WORD_BYTES];
+    let n = shell::given(rt, 1, &mut room).ok()?;
+    let work = work_of(&room[..n])?;
+    let length = number_asked(rt, 2)?;
+    let count = number_asked(rt, 3)?;
+    if ((PIECE_BYTES as u64) < length) | shell::is_given(rt, 4) {
+        return None;
     }
-}
-
-fn word_of(word: &[u8]) -> Word {
-    Word {
-        work: work_of(word),
-        number: number_of(word),
-    }
-}
-
-fn asked(rt: HostRuntime, i: usize) -> Word {
-    let mut room = [0u8; WORD_BYTES];
-    let told = shell::given(rt, i, &mut room);
-    match told {
-        Argument::Given(n) => word_of(&room[..n]),
-        _ => word_of(b""),
-    }
-}
-
-fn usage(voice: &mut Voice) {
-    shell::trouble(voice, b"speed: usage: speed feed|pull|copy PIECE CALLS\n");
-}
-
-fn put_line(line: &mut [u8], total: u64, first: u8, stored: u8) -> usize {
-    let digits = text::put_decimal(line, 0, total);
-    let space = text::put(line, digits, b' ');
-    let one = text::put_hex(line, space, first);
-    let again = text::put(line, one, b' ');
-    let two = text::put_hex(line, again, stored);
-    text::put(line, two, b'\n')
+    Some(Job {
+        work,
+        length: length as usize,
+        count,
+    })
 }
 
 // The bytes moved, and the first byte of the piece and of the disc, so that no move can be left out.
 fn say(voice: &mut Voice, total: u64, piece: &[u8], disc: &[u8]) {
-    let mut line = [0u8; LINE_BYTES];
-    let first = ground::byte(piece, 0);
-    let stored = ground::byte(disc, 0);
-    let end = put_line(&mut line, total, first, stored);
-    let n = ground::least(end, LINE_BYTES);
-    if shell::print(voice, b"speed", &line[..n]) {
-        shell::end(voice, shell::AS_HOPED);
+    let mut room = [0; LINE_BYTES];
+    let mut line = Line::new(&mut room);
+    line.put_decimal(total);
+    for bytes in [piece, disc] {
+        line.put(b' ');
+        line.put_hex(ground::byte(bytes, 0));
+    }
+    line.put(b'\n');
+    if voice.print(line.said()) {
+        voice.end(shell::AS_HOPED);
     }
 }
 
-fn run(
-    voice: &mut Voice,
-    work: Work,
-    count: u64,
-    piece: &mut [u8],
-    buffer: &mut [u8],
-    disc: &mut [u8],
-) {
-    match work {
-        Work::Copy => {
-            let total = copies(count, piece, disc);
-            say(voice, total, piece, disc);
-        }
-        Work::Unknown => usage(voice),
-        Work::Feed | Work::Pull => {
-            let total = calls(work, count, piece, buffer, disc);
-            say(voice, total, piece, disc);
-        }
-    }
+// The pieces begin with the first argument, so that no compiler knows what is moved.
+fn run(voice: &mut Voice, job: Job, room: &mut [u8], buffer: &mut [u8], disc: &mut [u8]) {
+    let _ = shell::given(voice.rt, 1, room);
+    let n = job.length.min(room.len());
+    let piece = &mut room[..n];
+    let total = match job.work {
+        Work::Copy => copies(job.count, piece, disc),
+        work => calls(work, job.count, piece, buffer, disc),
+    };
+    say(voice, total, piece, disc);
 }
 
-// Pieces of so many bytes, or of all there are. They begin with the first argument, so that no compiler knows what is moved.
-fn lend(
-    voice: &mut Voice,
-    work: Work,
-    count: u64,
-    length: u64,
-    piece: &mut [u8],
-    buffer: &mut [u8],
-    disc: &mut [u8],
-) {
-    shell::given(voice.rt, 1, piece);
-    let n = ground::least(length as usize, piece.len());
-    run(voice, work, count, &mut piece[..n], buffer, disc);
-}
-
-// The same of arrays, whose lengths no proof has to follow.
-fn start(
-    voice: &mut Voice,
-    work: Work,
-    count: u64,
-    length: u64,
-    piece: &mut Piece,
-    buffer: &mut Buffer,
-    disc: &mut Disc,
-) {
-    lend(voice, work, count, length, piece, buffer, disc);
+// The same of arrays: a proof that follows lengths, where it sees an array of 1,474,560 bytes made, runs out of the checker's stack.
+fn start(voice: &mut Voice, job: Job, room: &mut Piece, buffer: &mut Buffer, disc: &mut Disc) {
+    run(voice, job, room, buffer, disc);
 }
 
 fn run_asked(voice: &mut Voice) {
-    let work = asked(voice.rt, 1).work;
-    let length = asked(voice.rt, 2).number;
-    let count = asked(voice.rt, 3).number;
-    let three = shell::is_given(voice.rt, 3) & !shell::is_given(voice.rt, 4);
-    if !three | ((PIECE_BYTES as u64) < length) | (count == NONE) {
-        usage(voice);
-        return;
+    match asked(voice.rt) {
+        Some(job) => {
+            let mut room = [0; PIECE_BYTES];
+            let mut buffer = [0; disc::BUFFER_BYTES];
+            let mut disc = [0; DISC_BYTES];
+            start(voice, job, &mut room, &mut buffer, &mut disc);
+        }
+        None => voice.trouble(b"speed: usage: speed feed|pull|copy PIECE CALLS\n"),
     }
-    let mut piece = [0u8; PIECE_BYTES];
-    let mut buffer = [0u8; disc::BUFFER_BYTES];
-    let mut disc = [0u8; DISC_BYTES];
-    start(
-        voice,
-        work,
-        count,
-        length,
-        &mut piece,
-        &mut buffer,
-        &mut disc,
-    );
 }
 
 fn main(rt: HostRuntime) -> ExitCode {
-    let mut voice = shell::heard(rt);
+    let mut voice = Voice::new(rt, b"speed");
     run_asked(&mut voice);
-    shell::exit_code(&voice)
+    voice.exit_code()
 }

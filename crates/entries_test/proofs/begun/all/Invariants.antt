@@ -1,8 +1,0 @@
-use Rattle.std.specs.Prelude.{◌-◌, ◌≤◌}
-use Rattle.entries_test.proofs.begun.all.Given as goal
-
-abbrev pub invariant-loop-turn : goal.invariant-loop-turn
-invariant-loop-turn l = l.turn ≤ 22
-
-abbrev pub decreases-loop-turn : goal.decreases-loop-turn
-decreases-loop-turn l = 22 - l.turn

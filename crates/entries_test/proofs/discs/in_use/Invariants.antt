@@ -1,8 +1,0 @@
-use Rattle.std.specs.Prelude.{◌-◌, ◌≤◌}
-use Rattle.entries_test.proofs.discs.in_use.Given as goal
-
-abbrev pub invariant-loop-turn : goal.invariant-loop-turn
-invariant-loop-turn l = l.turn ≤ 18
-
-abbrev pub decreases-loop-turn : goal.decreases-loop-turn
-decreases-loop-turn l = 18 - l.turn

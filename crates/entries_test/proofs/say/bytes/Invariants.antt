@@ -1,9 +1,0 @@
-use Rattle.std.specs.Prelude.{◌-◌, ◌≤◌}
-use Rattle.ground.specs.Kit.{length}
-use Rattle.entries_test.proofs.say.bytes.Given as goal
-
-abbrev pub invariant-loop-at : goal.invariant-loop-at
-invariant-loop-at l = l.at ≤ length l.bytes
-
-abbrev pub decreases-loop-at : goal.decreases-loop-at
-decreases-loop-at l = length l.bytes - l.at

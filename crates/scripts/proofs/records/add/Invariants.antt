@@ -1,9 +1,0 @@
-use Rattle.std.specs.Prelude.{◌≡◌}
-use Rattle.ground.specs.Kit.{length}
-use Rattle.scripts.proofs.records.add.Given as goal
-
-abbrev pub invariant-loop-left : goal.invariant-loop-left
-invariant-loop-left l = (length l.«record» ≡ length l.initial.«record») × (length l.line ≡ length l.initial.line) × (length l.buffer ≡ length l.initial.buffer) × (length l.disc ≡ length l.initial.disc)
-
-abbrev pub decreases-loop-left : goal.decreases-loop-left
-decreases-loop-left l = l.left
