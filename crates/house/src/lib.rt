@@ -2,7 +2,7 @@
 #![tactic(auto)]
 
 ghost use Rattle.std.specs.Prelude.{◌≡◌};
-ghost use Rattle.house.specs.Refusals.{number_of, first_refusal, move_tests, command_tests, insert_tests, eject_tests};
+ghost use Rattle.house.specs.Refusals.{refusal_number, number_of, first_refusal, move_tests, command_tests, insert_tests, eject_tests};
 
 use state::State;
 
@@ -15,6 +15,15 @@ pub enum Refusal {
     DiscIn,
     NoDiscIn,
     NoSuchDisc,
+}
+
+impl Refusal {
+    // Its number in the paper's table.
+    pub fn number(self) -> u8
+        ensures { result ≡ refusal_number self }
+    {
+        number_of(&Err::<(), Refusal>(self))
+    }
 }
 
 // The house number of a reply, 0 where the call is accepted; a match, for the paper has these numbers in a table.

@@ -1,8 +1,12 @@
 // Bytes as a text writes them: two digits, or `xx*N` for a byte N times.
+ghost use Rattle.std.specs.Prelude.{◌<◌, IfSome};
+
 use crate::chars::Scan;
 use crate::faults::{Cause, Fault};
 
-fn hex_digit(c: u8) -> Option<u8> {
+fn hex_digit(c: u8) -> Option<u8>
+    ensures { IfSome result (λ digit. digit < 16) }
+{
     match c {
         b'0'..=b'9' => Some(c - b'0'),
         b'a'..=b'f' => Some(c - b'a' + 10),

@@ -6,7 +6,8 @@ ghost use Rattle.ground.specs.Kit.{true, false, length, cond};
 ghost use Rattle.std.specs.Process.{exit_status};
 ghost use Rattle.shell.specs.Arguments.{Within, option_b, with_file, with_option, with_word};
 ghost use Rattle.shell.specs.Sources.{open_b};
-ghost use Rattle.shell.specs.Voices.{Left};
+ghost use Rattle.text.specs.Ink.{inked, put_on};
+ghost use Rattle.shell.specs.Voices.{Left, OnLine, subject_text};
 
 use std::env::{Env, FillError};
 use std::fmt::Write as _;
@@ -123,7 +124,10 @@ impl<'a> Voice<'a> {
     }
 
     // What a complaint begins with: the program, and what it is about.
-    fn put_subject(&self, line: &mut Line, name: &[u8]) {
+    #[tactic(auto, using(text::proofs::Putting::put_behind))]
+    fn put_subject(&self, line: &mut Line, name: &[u8])
+        ensures { inked line.new ≡ put_on (inked line.old) (subject_text self.now.program.now name.now) }
+    {
         line.put_all(self.program);
         line.put_all(b": ");
         line.put_plain(name);
@@ -199,7 +203,9 @@ impl<'a> Voice<'a> {
 const REASON_BYTES: usize = 256;
 
 // std puts the error's number behind the system's reason, in parentheses.
-fn without_number(reason: &[u8]) -> &[u8] {
+fn without_number(reason: &[u8]) -> &[u8]
+    ensures { length result.now ≤ length reason.now }
+{
     match reason.iter().rposition(|b| *b == b'(') {
         Some(at) => &reason[..at.saturating_sub(1)],
         None => reason,
@@ -207,7 +213,10 @@ fn without_number(reason: &[u8]) -> &[u8] {
 }
 
 // The reason as the system gives it goes behind a subject.
-fn put_reason(line: &mut Line, error: io::Error) {
+#[tactic(auto, using(text::proofs::Putting::put_behind, crate::proofs::Lines::on_line))]
+fn put_reason(line: &mut Line, error: io::Error)
+    ensures { OnLine line.old line.new }
+{
     let mut room = [0; REASON_BYTES];
     let mut words = Line::new(&mut room);
     let _ = write!(words, "{error}");
