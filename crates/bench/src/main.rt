@@ -18,12 +18,13 @@ fn print(voice: &mut Voice, run: Run, line: &[u8]) -> bool {
     voice.print(&line[..run.length.min(line.len())])
 }
 
-// What can be read goes behind the unread bytes.
-fn refill(run: Run, input: &mut Input, room: &mut [u8]) -> io::Result<Run>
+// What can be read goes behind the unread bytes: where the read fails the run ends there, and why is told beside.
+fn refill(run: Run, input: &mut Input, room: &mut [u8]) -> (Run, Option<io::Error>)
     requires { run.window.upto ≤ length room.old }
 {
-    let got = input.read(&mut room[run.window.upto..])?;
-    Ok(turns::came(run, Some(got), room))
+    let read = input.read(&mut room[run.window.upto..]);
+    let next = turns::came(run, read.as_ref().ok().copied(), room);
+    (next, read.err())
 }
 
 fn play(voice: &mut Voice, input: &mut Input, name: &[u8], explain: bool) {
@@ -39,13 +40,14 @@ fn play(voice: &mut Voice, input: &mut Input, name: &[u8], explain: bool) {
             return;
         }
         match played.ahead {
-            Ahead::Read => match refill(played, input, &mut room) {
-                Ok(next) => run = next,
-                Err(error) => {
+            Ahead::Read => {
+                let (next, failed) = refill(played, input, &mut room);
+                if let Some(error) = failed {
                     voice.unreadable(input, name, error);
                     return;
                 }
-            },
+                run = next;
+            }
             Ahead::Turn => run = played,
             Ahead::End => break,
             Ahead::Stop => {

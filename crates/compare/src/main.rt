@@ -1,7 +1,7 @@
 // Compares two images of a disc, and lists the blocks that differ.
 #![tactic(auto)]
 
-ghost use Rattle.std.specs.Prelude.{◌≡◌, ◌+◌, ◌^◌, ◌<◌, ◌≤◌, IfOk};
+ghost use Rattle.std.specs.Prelude.{◌≡◌, ◌+◌, ◌^◌, ◌<◌, ◌≤◌};
 ghost use Rattle.ground.specs.Kit.{false, cond, eqb, length};
 ghost use Rattle.window.specs.Filling.{missing};
 
@@ -29,18 +29,27 @@ struct Image<'a> {
 }
 
 impl Image<'_> {
-    // One read behind the bytes that have come.
-    fn read_on(&mut self, place: BytePlace, window: Window, room: &mut [u8]) -> io::Result<Window>
+    fn read_at(&mut self, place: usize, room: &mut [u8]) -> io::Result<usize> {
+        self.file.seek(SeekFrom::Start(place as u64))?;
+        self.file.read(room)
+    }
+
+    // One read behind the bytes that have come: where it fails the bytes end there, and why is told beside.
+    fn read_on(
+        &mut self,
+        place: BytePlace,
+        window: Window,
+        room: &mut [u8],
+    ) -> (Window, Option<io::Error>)
         requires room_bound { place.0 + length room.old ≤ 2 ^ 62 }
         requires upto_in_bounds { window.upto < length room.old }
         requires ended_value { window.ended ≡ false }
-        ensures { IfOk result (λ next.
-            (next.upto ≤ length room.new) × (missing next (length room.new) < missing window (length room.old))) }
+        ensures upto_in_bounds_2 { result.0.upto ≤ length room.new }
+        ensures room_bound_2 { missing result.0 (length room.new) < missing window (length room.old) }
     {
-        let from = SeekFrom::Start((place.0 + window.upto) as u64);
-        self.file.seek(from)?;
-        let count = self.file.read(&mut room[window.upto..])?;
-        Ok(window::came(window, Some(count), room))
+        let read = self.read_at(place.0 + window.upto, &mut room[window.upto..]);
+        let next = window::came(window, read.as_ref().ok().copied(), room);
+        (next, read.err())
     }
 
     // The room is filled with the bytes from a place on, or the file is too short for that.
@@ -48,10 +57,14 @@ impl Image<'_> {
         requires { place.0 + length room.old ≤ 2 ^ 62 }
     {
         let mut window = window::opened();
+        let mut failed = None;
         while !window.ended & (window.upto < room.len()) {
-            window = self.read_on(place, window, room)?;
+            (window, failed) = self.read_on(place, window, room);
         }
-        Ok(window.upto == room.len())
+        match failed {
+            Some(error) => Err(error),
+            None => Ok(window.upto == room.len()),
+        }
     }
 
     // The first n bytes of the room are filled, or what is wrong has been said.
