@@ -44,7 +44,7 @@ abbrev pub StaysInLine : Type 0
 StaysInLine = (i : Ink) (text : List ℕ) → i.at ≤ length i.line
     → ((put_all i text).at ≤ length i.line) × (length (put_all i text).line ≡ length i.line)
 
--- two answers that a promise of this crate allows are equal: the place, and each byte of the line
+-- two answers that a promise of a place and a lent line allows are equal: the place, and each byte of the line
 abbrev pub OneText : Type 0
 OneText = (i : Ink) (text : List ℕ) (r q : ℕ) (l m : List ℕ) → ink r l ≡ put_all i text → ink q m ≡ put_all i text → (r ≡ q) × (l ≡ m)
 

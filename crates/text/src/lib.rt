@@ -6,7 +6,7 @@ ghost use Rattle.ground.specs.Kit.{[], take};
 ghost use Rattle.text.specs.Numbers.{glyph_of, hex_of, hexes_of, decimal_of};
 ghost use Rattle.text.specs.Plain.{plain_byte, plain_of};
 ghost use Rattle.text.specs.Reading.{with_digit, number_of};
-ghost use Rattle.text.specs.Ink.{begun, inked, put_on};
+ghost use Rattle.text.specs.Ink.{begun, ink, inked, put_all, put_on};
 
 use std::fmt;
 
@@ -31,25 +31,24 @@ impl<'a> Line<'a> {
         &self.bytes[..self.at.min(self.bytes.len())]
     }
 
-    // A line that is full is left as it is.
-    #[tactic(auto, unfolding(crate::specs::Ink::put_all), using(std::proofs::lemmas::Bool::Decides::nat_tests))]
     pub fn put(&mut self, b: u8)
         ensures { inked self.new ≡ put_on (inked self.old) (b ∷ []) }
     {
-        if self.at < self.bytes.len() {
-            self.bytes[self.at] = b;
-            self.at += 1;
-        }
+        self.at = put_at(self.bytes, self.at, b);
     }
 
-    // Three loops that put byte by byte: one over a closure would need a clause of what it puts, longer than a loop.
+    // Three loops that put byte by byte: one over a closure would need a clause of what it puts, longer than a loop. This one holds the place and
+    // the bytes in locals: a byte that is stored may stand in their stead in `self`, for all that the compiler knows.
     #[tactic(auto, unfolding(crate::specs::Ink::put_all))]
     pub fn put_all(&mut self, text: &[u8])
         ensures { inked self.new ≡ put_on (inked self.old) text.now }
     {
+        let line = &mut *self.bytes;
+        let mut next = self.at;
         for b in text {
-            self.put(*b);
+            next = put_at(line, next, *b);
         }
+        self.at = next;
     }
 
     // Two hexadecimal digits.
@@ -88,8 +87,8 @@ impl<'a> Line<'a> {
     pub fn put_plain(&mut self, text: &[u8])
         ensures { inked self.new ≡ put_on (inked self.old) (plain_of text.now) }
     {
-        for b in text {
-            self.put_plain_byte(*b);
+        for byte in text {
+            self.put_plain_byte(*byte);
         }
     }
 
@@ -114,9 +113,23 @@ impl<'a> Line<'a> {
 impl fmt::Write for Line<'_> {
     ghost write_str_gives = { λ s bs t. inked t ≡ put_on (inked s) bs };
 
+    #[tactic(auto, unfolding(crate::specs::Ink::put_all))]
     fn write_str(&mut self, part: &str) -> fmt::Result {
         self.put_all(part.as_bytes());
         Ok(())
+    }
+}
+
+// A byte at a place of a line, and the place behind it; a line that is full is left as it is.
+#[tactic(auto, unfolding(crate::specs::Ink::put_all), using(std::proofs::lemmas::Bool::Decides::nat_tests))]
+fn put_at(line: &mut [u8], at: usize, b: u8) -> usize
+    ensures { ink result line.new ≡ put_all (ink at line.old) (b ∷ []) }
+{
+    if at < line.len() {
+        line[at] = b;
+        at + 1
+    } else {
+        at
     }
 }
 
@@ -154,8 +167,8 @@ pub fn number(text: &[u8]) -> Option<u64>
         return None;
     }
     let mut n = 0;
-    for b in text {
-        n = with_digit(n, *b)?;
+    for digit in text {
+        n = with_digit(n, *digit)?;
     }
     Some(n)
 }

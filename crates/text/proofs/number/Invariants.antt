@@ -3,5 +3,5 @@ use Rattle.ground.specs.Kit.{drop}
 use Rattle.text.specs.Reading.{after, number_of}
 use Rattle.text.proofs.number.Given as goal
 
-abbrev pub invariant-loop-b : goal.invariant-loop-b
-invariant-loop-b l = after (drop l.b-index l.text) (Some l.n) ≡ number_of l.text
+abbrev pub invariant-loop-digit : goal.invariant-loop-digit
+invariant-loop-digit l = after (drop l.digit-index l.text) (Some l.n) ≡ number_of l.text
