@@ -58,6 +58,7 @@ fn broken_off(voice: &mut Voice, bench: &mut Bench) {
     bench.play(voice, steps::list(0x00, 64, 512));
 }
 
+#[inline(never)]
 pub(crate) fn all(voice: &mut Voice) {
     let mut bench = Bench::new(drive::power_on(), DISC_4.bytes, 0xd4);
     say::text(

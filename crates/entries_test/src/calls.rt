@@ -15,6 +15,7 @@ pub(crate) struct Case<'a> {
 }
 
 // What a caller of the drive keeps: its state, a block buffer with a byte more, and room for disc 3, the longest.
+// Each function that has one is never inlined: several of them would take their room in one frame.
 #[derive(Drop)]
 pub(crate) struct Bench {
     pub(crate) state: State,
@@ -71,6 +72,7 @@ impl Bench {
 }
 
 // Calls on fresh buffers. The caller's is an INQUIRY where it is a packet.
+#[inline(never)]
 pub(crate) fn fresh(voice: &mut Voice, calls: Calls, case: Case) {
     let mut bench = Bench::new(case.state, case.disc, 0xd4);
     let mut packet = [0u8; 1024];

@@ -37,6 +37,7 @@ fn ends(voice: &mut Voice, bench: &mut Bench, last: u16) {
 }
 
 // A disc of zeros.
+#[inline(never)]
 pub(crate) fn in_use(voice: &mut Voice, disc: Disc) {
     let mut bench = Bench::new(drive::power_on(), disc.bytes, 0);
     say::title(voice, disc.number);

@@ -46,6 +46,7 @@ fn refused(voice: &mut Voice, bench: &mut Bench, disc: Disc, other: Disc) {
 }
 
 // Tracks of a disc, and lists that are refused for a track as it was.
+#[inline(never)]
 fn tracks(voice: &mut Voice, disc: Disc, other: Disc) {
     let empty = states::plain(disc.number, false, Transfer::Closed);
     let mut bench = Bench::new(empty, disc.bytes, 0xd4);
@@ -58,6 +59,7 @@ fn tracks(voice: &mut Voice, disc: Disc, other: Disc) {
 }
 
 // A disc that is protected at first, then all blocks, whatever the track and the side; a block stored between is formatted too.
+#[inline(never)]
 fn whole(voice: &mut Voice, disc: Disc) {
     let blocks = u32::from(disc.blocks);
     let size = u32::from(disc.size);

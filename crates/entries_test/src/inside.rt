@@ -6,6 +6,7 @@ use crate::{say, states, steps};
 use shell::Voice;
 
 // The states that are made up are sound. The write has a block completed, and the next one broken off by a command.
+#[inline(never)]
 pub(crate) fn all(voice: &mut Voice) {
     let mut bench = Bench::new(drive::power_on(), DISC_4.bytes, 0xd4);
     say::text(
