@@ -1,6 +1,6 @@
 -- What holds of every disc of the table: one test that antt computes over all of its rows. Assumes nothing.
 use Rattle.std.specs.Prelude.{◌≡◌, ◌+◌, ◌*◌, ◌≤◌, ◌<◌}
-use Rattle.ground.specs.Kit.{refl, Bool, true, ℕ, zero, suc, add-mul, one-mul, mul-le-mul, mul-le-mul_right, arith, leb-true, ltb-true, eqb-true, eqb, leb, ltb}
+use Rattle.ground.specs.Kit.{sym, get_or-eq_default, refl, Bool, true, ℕ, zero, suc, add-mul, one-mul, mul-le-mul, mul-le-mul_right, arith, leb-true, ltb-true, eqb-true, eqb, leb, ltb}
 use Rattle.ground.proofs.Tables.{all, at_row, always}
 use Rattle.ground.proofs.Truth.{both}
 use Rattle.disc.specs.declared.{Format.Format}
@@ -70,6 +70,11 @@ run_add number m n = add-mul m n (block_bytes number)
 pub run_within : (number from n : ℕ) → from + n ≤ (format_of number).blocks → run_bytes number from + run_bytes number n ≤ disc_bytes number
 unfolding disc_bytes run_bytes
 run_within number from n h = rw (← run_add number from n) (mul-le-mul_right (block_bytes number) h)
+
+-- a number past the table is no disc's
+pub past_the_table : (number : ℕ) → 5 ≤ number → no_format ≡ format_of number
+unfolding format_of
+past_the_table number past = sym (get_or-eq_default formats no_format past)
 
 -- as many blocks as an address may count are bytes that a size may count
 pub run_fits : (blocks number : ℕ) → blocks ≤ 4294967295 → blocks * block_bytes number ≤ 4398046510080
