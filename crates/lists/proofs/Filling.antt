@@ -54,3 +54,11 @@ module _ (l : List ℕ) (from v : ℕ) where
           let same : first ≡ end = omega arith in
           let none : end - first ≡ 0 = omega arith in
           rw (n, none, take-append-drop first l) (sym (past (replicate count v) l from (omega arith)))
+
+  -- the same by how long the part is
+  pub filled_span : (first k count : ℕ) (new : List ℕ) → new ≡ replicate (length (take k (drop first l))) v
+      → first + k ≡ min (length l) (from + count) → first ≡ min (first + k) from
+      → take first l ++ (new ++ drop k (drop first l)) ≡ sets l from (replicate count v)
+  filled_span first k count new n e f =
+      let span : first + k - first ≡ k = omega arith in
+      rw span at (filled_part first (first + k) count new e f (rw span n))

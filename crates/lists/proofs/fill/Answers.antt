@@ -1,5 +1,8 @@
-use Rattle.lists.proofs.Filling.{filled_part}
+use Rattle.ground.specs.Kit.{arith}
+use Rattle.lists.proofs.Filling.{filled_span}
 use Rattle.lists.proofs.fill.Goals as goal
 
 pub returns : goal.returns
-returns c = filled_part _ _ _ _ _ _ _ c.min-end.ensures c.min-first.ensures (c.fill.ensures.after (λ y e. e))
+returns c =
+    let x = c.args in
+    filled_span _ x.from.0 _ _ _ x.count _ (c.fill.ensures.after (λ y e. e)) (omega arith) (omega arith)
